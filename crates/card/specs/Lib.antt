@@ -1,0 +1,7 @@
+pub mod Kinds
+pub mod Layout
+pub mod Sections
+pub mod Faults
+pub mod Cards
+
+pub mod Laws
