@@ -1,0 +1,24 @@
+-- Multipliers that show that no point is feasible.
+--
+-- The multipliers y, here plain whole numbers of any sign, weigh the rows into one: yᵀA z. The bounds cap that sum, the rows hold it up.
+use Prim.Native.Nat.{ℕ}
+use lib.IntN.{ℤ, _*ℤ_}
+use lib.Signed.{_<ℤ_}
+use Rattle.std.specs.Numbers.{maxZ, minZ}
+use Rattle.duality.specs.Sums.{Vector, ∑, column}
+use Rattle.duality.specs.Problem.{Problem, Feasible}
+
+-- the most that yᵀA z can be within the bounds
+unfoldable pub most : Problem → Vector → ℤ
+most P y = ∑ (P .ropes) (λ j. maxZ (column (P .rows) (P .A) y j *ℤ P .l j) (column (P .rows) (P .A) y j *ℤ P .u j))
+
+-- the least that it can be within the rows' limits
+unfoldable pub least : Problem → Vector → ℤ
+least P y = ∑ (P .rows) (λ i. minZ (y i *ℤ P .lo i) (y i *ℤ P .hi i))
+
+abbrev pub Refutes : Problem → Vector → Type 0
+Refutes P y = most P y <ℤ least P y
+
+-- Theorem: multipliers that refute leave no feasible point.
+abbrev pub None-sound : Type 0
+None-sound = (P : Problem) (y : Vector) → Refutes P y → (z : Vector) → Feasible P z → ⊥
