@@ -1,10 +1,11 @@
--- Vectors and matrices that agree below the size cannot be told apart: not by their products, their cost, their floor or their refutation.
+-- Only places below the sizes count: vectors, matrices and problems that agree there have the same products, cost, floor and refutations.
 use Prim.Native.Nat.{ℕ, _<_}
 use mathlib.Core.Path.{_≡_, refl, sym, ap, subst, _∙_}
+use native.Mathlib.Omega.{arith}
 use lib.IntN.{ℤ, pos, _+ℤ_, _-ℤ_, _*ℤ_}
 use lib.Signed.{_≤ℤ_}
 use Rattle.std.specs.Numbers.{maxZ, minZ}
-use Rattle.duality.specs.Sums.{Vector, Matrix, ∑, dot, row, column, form, quad}
+use Rattle.duality.specs.Sums.{Vector, Matrix, ∑, dot, row, column, quad}
 use Rattle.duality.specs.Problem.{Problem, Feasible, cost, rowAt, slope}
 use Rattle.duality.specs.Floor.{residual, furthest, slack, floor}
 use Rattle.duality.specs.Refutation.{most, least}
@@ -25,55 +26,107 @@ column-cong m A B x y j g h = dot-cong m x y (λ i. A i j) (λ i. B i j) h g
 pub quad-cong : (n : ℕ) (G H : Matrix) (x y : Vector) → ((i j : ℕ) → i < n → j < n → G i j ≡ H i j) → Agree n x y → quad n G x ≡ quad n H y
 quad-cong n G H x y g h = ∑∑-cong n n (λ i j. x i *ℤ G i j *ℤ x j) (λ i j. y i *ℤ H i j *ℤ y j) (λ i j k l. rw (g i j k l, h i k, h j l))
 
-module _ (P : Problem) where
-  pub cost-cong : (x y : Vector) → Agree (P .ropes) x y → cost P x ≡ cost P y
+-- two problems of the same sizes, with the same numbers below them
+pub record Same (P Q : Problem) : Type 0 where
+  pub ropes : P .ropes ≡ Q .ropes
+  pub rows : P .rows ≡ Q .rows
+  pub G : (i j : ℕ) → i < P .ropes → j < P .ropes → P .G i j ≡ Q .G i j
+  pub c : Agree (P .ropes) (P .c) (Q .c)
+  pub A : (i j : ℕ) → i < P .rows → j < P .ropes → P .A i j ≡ Q .A i j
+  pub lo : Agree (P .rows) (P .lo) (Q .lo)
+  pub hi : Agree (P .rows) (P .hi) (Q .hi)
+  pub l : Agree (P .ropes) (P .l) (Q .l)
+  pub u : Agree (P .ropes) (P .u) (Q .u)
+
+-- for laws below at one problem
+pub same-refl : (P : Problem) → Same P P
+same-refl P =
+    record {
+      ropes = refl;
+      rows = refl;
+      G = λ _ _ _ _. refl;
+      c = λ _ _. refl;
+      A = λ _ _ _ _. refl;
+      lo = λ _ _. refl;
+      hi = λ _ _. refl;
+      l = λ _ _. refl;
+      u = λ _ _. refl;
+    }
+
+module _ (P Q : Problem) (s : Same P Q) where
+  pub cost-cong : (x y : Vector) → Agree (P .ropes) x y → cost P x ≡ cost Q y
   unfolding cost
   cost-cong x y h =
-      ap (λ (t : ℤ). t +ℤ pos 2 *ℤ dot (P .ropes) (P .c) x) (quad-cong (P .ropes) (P .G) (P .G) x y (λ _ _ _ _. refl) h)
-      ∙ ap (λ (t : ℤ). quad (P .ropes) (P .G) y +ℤ pos 2 *ℤ t) (dot-cong (P .ropes) (P .c) (P .c) x y (λ _ _. refl) h)
+      ap (λ (t : ℤ). t +ℤ pos 2 *ℤ dot (P .ropes) (P .c) x) (quad-cong (P .ropes) (P .G) (Q .G) x y (s .G) h)
+      ∙ ap (λ (t : ℤ). quad (P .ropes) (Q .G) y +ℤ pos 2 *ℤ t) (dot-cong (P .ropes) (P .c) (Q .c) x y (s .c) h)
+      ∙ ap (λ (n : ℕ). quad n (Q .G) y +ℤ pos 2 *ℤ dot n (Q .c) y) (s .ropes)
 
-  pub rowAt-cong : (x y : Vector) (i : ℕ) → Agree (P .ropes) x y → rowAt P x i ≡ rowAt P y i
-  rowAt-cong x y i h = row-cong (P .ropes) (P .A) (P .A) x y i (λ _ _. refl) h
+  pub rowAt-cong : (x y : Vector) (i : ℕ) → i < P .rows → Agree (P .ropes) x y → rowAt P x i ≡ rowAt Q y i
+  rowAt-cong x y i k h = row-cong (P .ropes) (P .A) (Q .A) x y i (λ j l. s .A i j k l) h ∙ ap (λ (n : ℕ). row n (Q .A) y i) (s .ropes)
 
-  pub slope-cong : (x y : Vector) (j : ℕ) → Agree (P .ropes) x y → slope P x j ≡ slope P y j
-  slope-cong x y j h = ap (λ (t : ℤ). t +ℤ P .c j) (row-cong (P .ropes) (P .G) (P .G) x y j (λ _ _. refl) h)
+  pub slope-cong : (x y : Vector) (j : ℕ) → j < P .ropes → Agree (P .ropes) x y → slope P x j ≡ slope Q y j
+  slope-cong x y j k h =
+      ap (λ (t : ℤ). t +ℤ P .c j) (row-cong (P .ropes) (P .G) (Q .G) x y j (λ i l. s .G j i k l) h)
+      ∙ ap (λ (t : ℤ). row (P .ropes) (Q .G) y j +ℤ t) (s .c j k)
+      ∙ ap (λ (n : ℕ). row n (Q .G) y j +ℤ Q .c j) (s .ropes)
 
-  pub Feasible-cong : (x y : Vector) → Agree (P .ropes) x y → Feasible P x → Feasible P y
+  weights-cong : (y w : Vector) (j : ℕ) → j < P .ropes → Agree (P .rows) y w → column (P .rows) (P .A) y j ≡ column (Q .rows) (Q .A) w j
+  weights-cong y w j k h =
+      column-cong (P .rows) (P .A) (Q .A) y w j (λ i l. s .A i j l k) h
+      ∙ ap (λ (m : ℕ). column m (Q .A) w j) (s .rows)
+
+  pub Feasible-cong : (x y : Vector) → Agree (P .ropes) x y → Feasible P x → Feasible Q y
   Feasible-cong x y h f =
       record {
-        row-lo = λ i l. rw (rowAt-cong x y i h) at (f .row-lo i l);
-        row-hi = λ i l. rw (rowAt-cong x y i h) at (f .row-hi i l);
-        bound-l = λ j l. rw (h j l) at (f .bound-l j l);
-        bound-u = λ j l. rw (h j l) at (f .bound-u j l);
+        row-lo = λ i l. let k : i < P .rows = omega (arith, s .rows) in rw (s .lo i k, rowAt-cong x y i k h) at (f .row-lo i k);
+        row-hi = λ i l. let k : i < P .rows = omega (arith, s .rows) in rw (s .hi i k, rowAt-cong x y i k h) at (f .row-hi i k);
+        bound-l = λ j l. let k : j < P .ropes = omega (arith, s .ropes) in rw (s .l j k, h j k) at (f .bound-l j k);
+        bound-u = λ j l. let k : j < P .ropes = omega (arith, s .ropes) in rw (s .u j k, h j k) at (f .bound-u j k);
       }
 
-  pub residual-cong : (p q y w : Vector) (j : ℕ) → Agree (P .ropes) p q → Agree (P .rows) y w → residual P p y j ≡ residual P q w j
+  pub residual-cong : (p q y w : Vector) (j : ℕ) → j < P .ropes → Agree (P .ropes) p q → Agree (P .rows) y w → residual P p y j ≡ residual Q q w j
   unfolding residual
-  residual-cong p q y w j h k =
-      ap (λ (t : ℤ). pos 256 *ℤ t -ℤ column (P .rows) (P .A) y j) (slope-cong p q j h)
-      ∙ ap (λ (t : ℤ). pos 256 *ℤ slope P q j -ℤ t) (column-cong (P .rows) (P .A) (P .A) y w j (λ _ _. refl) k)
+  residual-cong p q y w j l h k =
+      ap (λ (t : ℤ). pos 256 *ℤ t -ℤ column (P .rows) (P .A) y j) (slope-cong p q j l h)
+      ∙ ap (λ (t : ℤ). pos 256 *ℤ slope Q q j -ℤ t) (weights-cong y w j l k)
 
-  pub slack-cong : (p q y w : Vector) → Agree (P .ropes) p q → Agree (P .rows) y w → slack P p y ≡ slack P q w
+  pub slack-cong : (p q y w : Vector) → Agree (P .ropes) p q → Agree (P .rows) y w → slack P p y ≡ slack Q q w
   unfolding slack
   slack-cong p q y w h k =
-      ap (λ (t : ℤ). t +ℤ ∑ (P .ropes) (λ j. furthest (residual P p y j) (p j) (P .l j) (P .u j)))
-      (∑-cong (P .rows) (λ i. furthest (y i) (rowAt P p i) (P .lo i) (P .hi i)) (λ i. furthest (w i) (rowAt P q i) (P .lo i) (P .hi i))
-      (λ i l. rw (k i l, rowAt-cong p q i h)))
-      ∙ ap (λ (t : ℤ). ∑ (P .rows) (λ i. furthest (w i) (rowAt P q i) (P .lo i) (P .hi i)) +ℤ t)
-      (∑-cong (P .ropes) (λ j. furthest (residual P p y j) (p j) (P .l j) (P .u j)) (λ j. furthest (residual P q w j) (q j) (P .l j) (P .u j))
-      (λ j l. rw (residual-cong p q y w j h k, h j l)))
+      ap (λ (t : ℤ). t +ℤ ∑ (P .ropes) by-rope)
+      (∑-cong (P .rows) (λ i. furthest (y i) (rowAt P p i) (P .lo i) (P .hi i)) by-row′ (λ i l. rw (k i l, rowAt-cong p q i l h, s .lo i l, s .hi i l))
+      ∙ ap (λ (m : ℕ). ∑ m by-row′) (s .rows))
+      ∙ ap (λ (t : ℤ). ∑ (Q .rows) by-row′ +ℤ t)
+      (∑-cong (P .ropes) by-rope by-rope′ (λ j l. rw (residual-cong p q y w j l h k, h j l, s .l j l, s .u j l))
+      ∙ ap (λ (n : ℕ). ∑ n by-rope′) (s .ropes))
+    where
+      by-row′ : Vector
+      by-row′ i = furthest (w i) (rowAt Q q i) (Q .lo i) (Q .hi i)
 
-  pub floor-cong : (p q y w : Vector) → Agree (P .ropes) p q → Agree (P .rows) y w → floor P p y ≡ floor P q w
+      by-rope : Vector
+      by-rope j = furthest (residual P p y j) (p j) (P .l j) (P .u j)
+
+      by-rope′ : Vector
+      by-rope′ j = furthest (residual Q q w j) (q j) (Q .l j) (Q .u j)
+
+  pub floor-cong : (p q y w : Vector) → Agree (P .ropes) p q → Agree (P .rows) y w → floor P p y ≡ floor Q q w
   floor-cong p q y w h k = rw (cost-cong p q h, slack-cong p q y w h k)
 
-  pub most-cong : (y w : Vector) → Agree (P .rows) y w → most P y ≡ most P w
+  pub most-cong : (y w : Vector) → Agree (P .rows) y w → most P y ≡ most Q w
   unfolding most
   most-cong y w k =
-      ∑-cong (P .ropes) (λ j. maxZ (column (P .rows) (P .A) y j *ℤ P .l j) (column (P .rows) (P .A) y j *ℤ P .u j))
-      (λ j. maxZ (column (P .rows) (P .A) w j *ℤ P .l j) (column (P .rows) (P .A) w j *ℤ P .u j))
-      (λ j _. rw (column-cong (P .rows) (P .A) (P .A) y w j (λ _ _. refl) k))
+      ∑-cong (P .ropes) (λ j. maxZ (a j *ℤ P .l j) (a j *ℤ P .u j)) (λ j. maxZ (b j *ℤ Q .l j) (b j *ℤ Q .u j))
+      (λ j l. rw (weights-cong y w j l k, s .l j l, s .u j l))
+      ∙ ap (λ (n : ℕ). ∑ n (λ j. maxZ (b j *ℤ Q .l j) (b j *ℤ Q .u j))) (s .ropes)
+    where
+      a : Vector
+      a = column (P .rows) (P .A) y
 
-  pub least-cong : (y w : Vector) → Agree (P .rows) y w → least P y ≡ least P w
+      b : Vector
+      b = column (Q .rows) (Q .A) w
+
+  pub least-cong : (y w : Vector) → Agree (P .rows) y w → least P y ≡ least Q w
   unfolding least
   least-cong y w k =
-      ∑-cong (P .rows) (λ i. minZ (y i *ℤ P .lo i) (y i *ℤ P .hi i)) (λ i. minZ (w i *ℤ P .lo i) (w i *ℤ P .hi i)) (λ i l. rw (k i l))
+      ∑-cong (P .rows) (λ i. minZ (y i *ℤ P .lo i) (y i *ℤ P .hi i)) (λ i. minZ (w i *ℤ Q .lo i) (w i *ℤ Q .hi i)) (λ i l. rw (k i l, s .lo i l, s .hi i l))
+      ∙ ap (λ (m : ℕ). ∑ m (λ i. minZ (w i *ℤ Q .lo i) (w i *ℤ Q .hi i))) (s .rows)

@@ -10,7 +10,7 @@ use Rattle.duality.specs.Convex.{Symmetric}
 use Rattle.duality.proofs.Ring.{lin, ring, *ℤ-two, *ℤ-distr}
 use Rattle.duality.proofs.Sums.{∑-cong, ∑-add, ∑-scale}
 use Rattle.duality.proofs.Forms.{dot-add, dot-comm, form-rows, quad-add}
-use Rattle.duality.proofs.Congruence.{cost-cong}
+use Rattle.duality.proofs.Congruence.{cost-cong, same-refl}
 
 -- one pass over the rows of G suffices
 pub cost-rows : (P : Problem) (z : Vector) → cost P z ≡ ∑ (P .ropes) (λ i. z i *ℤ (row (P .ropes) (P .G) z i +ℤ pos 2 *ℤ P .c i))
@@ -55,7 +55,7 @@ cost-add P x d s =
 
 pub cost-from : (P : Problem) (p z : Vector) → Symmetric (P .ropes) (P .G) →
     cost P z ≡ cost P p +ℤ (pos 2 *ℤ dot (P .ropes) (slope P p) (λ j. z j -ℤ p j) +ℤ quad (P .ropes) (P .G) (λ j. z j -ℤ p j))
-cost-from P p z s = cost-cong P z (λ j. p j +ℤ (z j -ℤ p j)) (λ j _. back (z j) (p j)) ∙ cost-add P p (λ j. z j -ℤ p j) s
+cost-from P p z s = cost-cong P P (same-refl P) z (λ j. p j +ℤ (z j -ℤ p j)) (λ j _. back (z j) (p j)) ∙ cost-add P p (λ j. z j -ℤ p j) s
   where
     back : (a b : ℤ) → a ≡ b +ℤ (a -ℤ b)
     back a b = omega (arith, lin)

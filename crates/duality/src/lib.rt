@@ -3,6 +3,7 @@
 //! Each function does nothing and promises a theorem on whole numbers, which callers' proofs can use. The statements stand in specs/.
 ghost use Rattle.duality.specs.Convex.{Slip-sound};
 ghost use Rattle.duality.specs.Floor.{Floor-sound, Slip-floor, Gap-sound, Gap-closed};
+ghost use Rattle.duality.specs.Conditions.{Conditions-tight};
 ghost use Rattle.duality.specs.Refutation.{None-sound};
 
 /// A slip that holds shows that the quadratic form of a symmetric matrix is never negative.
@@ -28,6 +29,11 @@ pub fn gap_is_sound()
 /// A feasible point whose gap is below 256 is optimal.
 pub fn closed_gap_is_optimal()
     ensures { λ _. ⌜ Gap-closed ⌝ }
+{}
+
+/// A pair that meets the optimality conditions leaves its own point no gap.
+pub fn conditions_close_gap()
+    ensures { λ _. ⌜ Conditions-tight ⌝ }
 {}
 
 /// Multipliers that refute leave no feasible point.
