@@ -1,12 +1,10 @@
 -- Under the optimality conditions each term of the slack is 0.
-use Prim.Native.Nat.{ℕ, suc, _<_}
-use mathlib.Core.Path.{_≡_, refl, ap, _∙_}
+use mathlib.Core.Path.{_≡_, refl, ap}
 use native.Mathlib.Omega.{arith}
 use lib.IntN.{ℤ, pos, _-ℤ_, _*ℤ_, zero-*ℤ, *ℤ-zero}
 use lib.Signed.{_≤ℤ_, _<ℤ_}
-use borrow.Author.Differences.{product-is}
 use Rattle.std.proofs.shelf.Signed.{clamps, by-ltZ}
-use Rattle.duality.specs.Sums.{Vector, ∑}
+use Rattle.duality.specs.Sums.{Vector}
 use Rattle.duality.specs.Problem.{Problem, cost, rowAt}
 use Rattle.duality.specs.Floor.{residual, furthest, slack}
 use Rattle.duality.specs.Conditions.{Conditions, Conditions-tight}

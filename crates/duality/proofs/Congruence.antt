@@ -1,14 +1,12 @@
 -- Only places below the sizes count: vectors, matrices and problems that agree there have the same products, cost, floor and refutations.
 use Prim.Native.Nat.{ℕ, _<_}
-use mathlib.Core.Path.{_≡_, refl, sym, ap, subst, _∙_}
+use mathlib.Core.Path.{_≡_, refl, ap, _∙_}
 use native.Mathlib.Omega.{arith}
-use lib.IntN.{ℤ, pos, _+ℤ_, _-ℤ_, _*ℤ_}
-use lib.Signed.{_≤ℤ_}
-use Rattle.std.specs.Numbers.{maxZ, minZ}
+use lib.IntN.{ℤ, _+ℤ_, _*ℤ_}
 use Rattle.duality.specs.Sums.{Vector, Matrix, ∑, dot, row, column, quad}
 use Rattle.duality.specs.Problem.{Problem, Feasible, cost, rowAt, slope}
 use Rattle.duality.specs.Floor.{residual, furthest, slack, floor}
-use Rattle.duality.specs.Refutation.{most, least}
+use Rattle.duality.specs.Refutation.{highest, lowest, most, least}
 use Rattle.duality.proofs.Sums.{∑-cong, ∑∑-cong}
 
 abbrev pub Agree : ℕ → Vector → Vector → Type 0
@@ -57,9 +55,11 @@ module _ (P Q : Problem) (s : Same P Q) where
   pub cost-cong : (x y : Vector) → Agree (P .ropes) x y → cost P x ≡ cost Q y
   unfolding cost
   cost-cong x y h =
-      ap (λ (t : ℤ). t +ℤ pos 2 *ℤ dot (P .ropes) (P .c) x) (quad-cong (P .ropes) (P .G) (Q .G) x y (s .G) h)
-      ∙ ap (λ (t : ℤ). quad (P .ropes) (Q .G) y +ℤ pos 2 *ℤ t) (dot-cong (P .ropes) (P .c) (Q .c) x y (s .c) h)
-      ∙ ap (λ (n : ℕ). quad n (Q .G) y +ℤ pos 2 *ℤ dot n (Q .c) y) (s .ropes)
+      rw (
+        quad-cong (P .ropes) (P .G) (Q .G) x y (s .G) h,
+        dot-cong (P .ropes) (P .c) (Q .c) x y (s .c) h,
+        s .ropes,
+      )
 
   pub rowAt-cong : (x y : Vector) (i : ℕ) → i < P .rows → Agree (P .ropes) x y → rowAt P x i ≡ rowAt Q y i
   rowAt-cong x y i k h = row-cong (P .ropes) (P .A) (Q .A) x y i (λ j l. s .A i j k l) h ∙ ap (λ (n : ℕ). row n (Q .A) y i) (s .ropes)
@@ -86,9 +86,7 @@ module _ (P Q : Problem) (s : Same P Q) where
 
   pub residual-cong : (p q y w : Vector) (j : ℕ) → j < P .ropes → Agree (P .ropes) p q → Agree (P .rows) y w → residual P p y j ≡ residual Q q w j
   unfolding residual
-  residual-cong p q y w j l h k =
-      ap (λ (t : ℤ). pos 256 *ℤ t -ℤ column (P .rows) (P .A) y j) (slope-cong p q j l h)
-      ∙ ap (λ (t : ℤ). pos 256 *ℤ slope Q q j -ℤ t) (weights-cong y w j l k)
+  residual-cong p q y w j l h k = rw (slope-cong p q j l h, weights-cong y w j l k)
 
   pub slack-cong : (p q y w : Vector) → Agree (P .ropes) p q → Agree (P .rows) y w → slack P p y ≡ slack Q q w
   unfolding slack
@@ -115,9 +113,9 @@ module _ (P Q : Problem) (s : Same P Q) where
   pub most-cong : (y w : Vector) → Agree (P .rows) y w → most P y ≡ most Q w
   unfolding most
   most-cong y w k =
-      ∑-cong (P .ropes) (λ j. maxZ (a j *ℤ P .l j) (a j *ℤ P .u j)) (λ j. maxZ (b j *ℤ Q .l j) (b j *ℤ Q .u j))
+      ∑-cong (P .ropes) (λ j. highest (a j) (P .l j) (P .u j)) (λ j. highest (b j) (Q .l j) (Q .u j))
       (λ j l. rw (weights-cong y w j l k, s .l j l, s .u j l))
-      ∙ ap (λ (n : ℕ). ∑ n (λ j. maxZ (b j *ℤ Q .l j) (b j *ℤ Q .u j))) (s .ropes)
+      ∙ ap (λ (n : ℕ). ∑ n (λ j. highest (b j) (Q .l j) (Q .u j))) (s .ropes)
     where
       a : Vector
       a = column (P .rows) (P .A) y
@@ -128,5 +126,5 @@ module _ (P Q : Problem) (s : Same P Q) where
   pub least-cong : (y w : Vector) → Agree (P .rows) y w → least P y ≡ least Q w
   unfolding least
   least-cong y w k =
-      ∑-cong (P .rows) (λ i. minZ (y i *ℤ P .lo i) (y i *ℤ P .hi i)) (λ i. minZ (w i *ℤ Q .lo i) (w i *ℤ Q .hi i)) (λ i l. rw (k i l, s .lo i l, s .hi i l))
-      ∙ ap (λ (m : ℕ). ∑ m (λ i. minZ (w i *ℤ Q .lo i) (w i *ℤ Q .hi i))) (s .rows)
+      ∑-cong (P .rows) (λ i. lowest (y i) (P .lo i) (P .hi i)) (λ i. lowest (w i) (Q .lo i) (Q .hi i)) (λ i l. rw (k i l, s .lo i l, s .hi i l))
+      ∙ ap (λ (m : ℕ). ∑ m (λ i. lowest (w i) (Q .lo i) (Q .hi i))) (s .rows)

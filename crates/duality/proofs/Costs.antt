@@ -1,13 +1,12 @@
 -- The cost by the rows of G, and from one point to another.
 use Prim.Native.Nat.{ℕ}
-use mathlib.Core.Path.{_≡_, refl, sym, ap, _∙_}
+use mathlib.Core.Path.{_≡_, sym, ap, _∙_}
 use native.Mathlib.Omega.{arith}
 use lib.IntN.{ℤ, pos, _+ℤ_, _-ℤ_, _*ℤ_}
-use borrow.Author.Differences.{product-is}
 use Rattle.duality.specs.Sums.{Vector, ∑, dot, row, quad}
 use Rattle.duality.specs.Problem.{Problem, cost, slope}
 use Rattle.duality.specs.Convex.{Symmetric}
-use Rattle.duality.proofs.Ring.{lin, ring, *ℤ-two, *ℤ-distr}
+use Rattle.duality.proofs.Ring.{lin, ring, *ℤ-two}
 use Rattle.duality.proofs.Sums.{∑-cong, ∑-add, ∑-scale}
 use Rattle.duality.proofs.Forms.{dot-add, dot-comm, form-rows, quad-add}
 use Rattle.duality.proofs.Congruence.{cost-cong, same-refl}

@@ -2,17 +2,16 @@
 --
 -- From p to z the cost changes by 2 (G p + c)ᵀd and by dᵀG d, which a convex cost keeps from being negative. Times 256, the slope is what the
 -- residual and the weighted rows make of d, and neither can fall further than to the far end of its interval: that is the slack.
-use Prim.Native.Nat.{ℕ, _<_}
-use mathlib.Core.Path.{_≡_, refl, sym, ap, _∙_}
+use Prim.Native.Nat.{ℕ}
+use mathlib.Core.Path.{_≡_, ap}
 use native.Mathlib.Omega.{arith}
 use lib.IntN.{ℤ, pos, _+ℤ_, _-ℤ_, _*ℤ_, negℤ}
-use lib.Signed.{_≤ℤ_, _<ℤ_}
+use lib.Signed.{_≤ℤ_}
 use borrow.Author.Differences.{product-is}
 use Rattle.std.proofs.shelf.Signed.{clamps}
-use Rattle.duality.specs.Sums.{Vector, Matrix, ∑, dot, row, column, quad}
-use Rattle.duality.specs.Problem.{Problem, Feasible, cost, rowAt, slope}
-use Rattle.duality.specs.Convex.{Symmetric, Convex}
-use Rattle.duality.specs.Floor.{residual, furthest, slack, floor, Floor-sound, Slip-floor, Gap-sound, Gap-closed}
+use Rattle.duality.specs.Sums.{Vector, dot, column}
+use Rattle.duality.specs.Problem.{Problem, Feasible, rowAt, slope}
+use Rattle.duality.specs.Floor.{residual, furthest, slack, Floor-sound, Slip-floor, Gap-sound, Gap-closed}
 use Rattle.duality.proofs.Ring.{lin, ring}
 use Rattle.duality.proofs.Order.{*ℤ-between}
 use Rattle.duality.proofs.Sums.{∑-cong, ∑-le, ∑-sub, ∑-scale}
@@ -33,7 +32,7 @@ split P p y v =
     omega (
       arith,
       lin,
-      ∑-cong n (λ j. residual P p y j *ℤ v j) (λ j. pos 256 *ℤ (slope P p j *ℤ v j) -ℤ w j *ℤ v j) (λ j _. term (pos 256) (slope P p j) (w j) (v j)),
+      ∑-cong n (λ j. residual P p y j *ℤ v j) (λ j. pos 256 *ℤ (slope P p j *ℤ v j) -ℤ w j *ℤ v j) (λ j _. simp ring (omega (arith, lin))),
       ∑-sub n (λ j. pos 256 *ℤ (slope P p j *ℤ v j)) (λ j. w j *ℤ v j),
       ∑-scale n (pos 256) (λ j. slope P p j *ℤ v j),
       column-dot (P .rows) n (P .A) y v,
@@ -44,9 +43,6 @@ split P p y v =
 
     w : Vector
     w = column (P .rows) (P .A) y
-
-    term : (h s w v : ℤ) → (h *ℤ s -ℤ w) *ℤ v ≡ h *ℤ (s *ℤ v) -ℤ w *ℤ v
-    term h s w v = simp ring
 
 module _ (P : Problem) (p y z : Vector) (f : Feasible P z) where
   -- the slope falls by no more than the slack on the way from p to z
@@ -74,28 +70,14 @@ module _ (P : Problem) (p y z : Vector) (f : Feasible P z) where
       n = P .ropes
 
 pub floor-sound : Floor-sound
-floor-sound P s v p y z f =
-    put (cost P z) (cost P p) (dot (P .ropes) (slope P p) d) (quad (P .ropes) (P .G) d) (slack P p y) (cost-from P p z s) (v d) (fall-le P p y z f)
-  where
-    d : Vector
-    d j = z j -ℤ p j
-
-    put : (Cz Cp S Q g : ℤ) → Cz ≡ Cp +ℤ (pos 2 *ℤ S +ℤ Q) → pos 0 ≤ℤ Q → negℤ (pos 256 *ℤ S) ≤ℤ g → (pos 256 *ℤ Cp -ℤ pos 2 *ℤ g) ≤ℤ (pos 256 *ℤ Cz)
-    put Cz Cp S Q g e q k =
-        omega (arith, lin, product-is (pos 256) Cz, product-is (pos 256) Cp, product-is (pos 256) S, product-is (pos 2) S, product-is (pos 2) g)
+floor-sound P s v p y z f = omega (arith, lin, product-is, cost-from P p z s, v (λ j. z j -ℤ p j), fall-le P p y z f)
 
 pub slip-floor : Slip-floor
 slip-floor P L s h = floor-sound P s (slip-sound (P .ropes) (P .G) L s h)
 
 pub gap-sound : Gap-sound
-gap-sound P L s h p y z x f = put (cost P z) (cost P x) (floor P p y) (slip-floor P L s h p y x f)
-  where
-    put : (Cz Cx b : ℤ) → b ≤ℤ (pos 256 *ℤ Cx) → (pos 256 *ℤ (Cz -ℤ Cx)) ≤ℤ (pos 256 *ℤ Cz -ℤ b)
-    put Cz Cx b k = omega (arith, lin, product-is (pos 256) (Cz -ℤ Cx), product-is (pos 256) Cz, product-is (pos 256) Cx)
+gap-sound P L s h p y z x f = omega (arith, lin, product-is, slip-floor P L s h p y x f)
 
 -- a saving of 1 would take a gap of 256
 pub gap-closed : Gap-closed
-gap-closed P L s h p y z f g = record { feasible = f; cheapest = λ x k. put (cost P z) (cost P x) (floor P p y) (slip-floor P L s h p y x k) g }
-  where
-    put : (Cz Cx b : ℤ) → b ≤ℤ (pos 256 *ℤ Cx) → (pos 256 *ℤ Cz -ℤ b) <ℤ pos 256 → Cz ≤ℤ Cx
-    put Cz Cx b k m = omega (arith, lin, product-is (pos 256) Cz, product-is (pos 256) Cx)
+gap-closed P L s h p y z f g = record { feasible = f; cheapest = λ x k. omega (arith, lin, product-is, slip-floor P L s h p y x k) }

@@ -1,8 +1,7 @@
 -- The order of ℤ beside its product: signs, monotone products, and a product over an interval.
-use Prim.Native.Nat.{ℕ}
 use mathlib.Core.Logic.{_⊎_, inl, inr, ⊎-elim}
 use native.Mathlib.Omega.{arith}
-use lib.IntN.{ℤ, pos, negsuc, _+ℤ_, _-ℤ_, _*ℤ_, negℤ}
+use lib.IntN.{ℤ, pos, negsuc, _-ℤ_, _*ℤ_, negℤ}
 use lib.Signed.{_≤ℤ_}
 use Rattle.std.specs.Numbers.{maxZ, minZ}
 use Rattle.std.proofs.shelf.Signed.{clamps}

@@ -1,13 +1,11 @@
 -- Multipliers that refute leave no feasible point: at one, yᵀA z would be at most `most` and at least `least`.
-use Prim.Native.Nat.{ℕ, _<_}
-use mathlib.Core.Path.{_≡_}
 use native.Mathlib.Omega.{arith}
-use lib.IntN.{ℤ, _*ℤ_}
-use lib.Signed.{_≤ℤ_, _<ℤ_}
-use Rattle.std.specs.Numbers.{maxZ, minZ}
-use Rattle.duality.specs.Sums.{Vector, ∑, dot, column}
+use lib.IntN.{_*ℤ_}
+use lib.Signed.{_≤ℤ_}
+use Rattle.std.proofs.shelf.Signed.{clamps}
+use Rattle.duality.specs.Sums.{Vector, dot, column}
 use Rattle.duality.specs.Problem.{Problem, Feasible, rowAt}
-use Rattle.duality.specs.Refutation.{most, least, Refutes, None-sound}
+use Rattle.duality.specs.Refutation.{highest, lowest, most, least, None-sound}
 use Rattle.duality.proofs.Ring.{lin}
 use Rattle.duality.proofs.Order.{*ℤ-between}
 use Rattle.duality.proofs.Sums.{∑-le}
@@ -17,8 +15,8 @@ module _ (P : Problem) (y z : Vector) (f : Feasible P z) where
   at-most : dot (P .ropes) (column (P .rows) (P .A) y) z ≤ℤ most P y
   unfolding most
   at-most =
-      ∑-le (P .ropes) (λ j. w j *ℤ z j) (λ j. maxZ (w j *ℤ P .l j) (w j *ℤ P .u j))
-      (λ j k. *ℤ-between (w j) (z j) (P .l j) (P .u j) (f .bound-l j k) (f .bound-u j k) .1)
+      ∑-le (P .ropes) (λ j. w j *ℤ z j) (λ j. highest (w j) (P .l j) (P .u j))
+      (λ j k. omega (arith, lin, clamps, *ℤ-between (w j) (z j) (P .l j) (P .u j) (f .bound-l j k) (f .bound-u j k)))
     where
       w : Vector
       w = column (P .rows) (P .A) y
@@ -26,8 +24,8 @@ module _ (P : Problem) (y z : Vector) (f : Feasible P z) where
   at-least : least P y ≤ℤ dot (P .rows) y (rowAt P z)
   unfolding least
   at-least =
-      ∑-le (P .rows) (λ i. minZ (y i *ℤ P .lo i) (y i *ℤ P .hi i)) (λ i. y i *ℤ rowAt P z i)
-      (λ i k. *ℤ-between (y i) (rowAt P z i) (P .lo i) (P .hi i) (f .row-lo i k) (f .row-hi i k) .0)
+      ∑-le (P .rows) (λ i. lowest (y i) (P .lo i) (P .hi i)) (λ i. y i *ℤ rowAt P z i)
+      (λ i k. omega (arith, lin, clamps, *ℤ-between (y i) (rowAt P z i) (P .lo i) (P .hi i) (f .row-lo i k) (f .row-hi i k)))
 
 pub none-sound : None-sound
 none-sound P y r z f = omega (arith, lin, at-most P y z f, at-least P y z f, column-dot (P .rows) (P .ropes) (P .A) y z)

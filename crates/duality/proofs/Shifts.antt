@@ -1,9 +1,9 @@
 -- A vector of which one place changes: its sums, rows, slope and cost from those of the old one, at a price that does not grow with the square form.
 use Prim.Native.Nat.{ℕ, _<_}
-use mathlib.Core.Path.{_≡_, refl, sym, ap, _∙_}
+use mathlib.Core.Path.{_≡_, ap, _∙_}
 use native.Mathlib.Omega.{arith}
 use lib.IntN.{ℤ, pos, _+ℤ_, _-ℤ_, _*ℤ_}
-use Rattle.duality.specs.Sums.{Vector, Matrix, ∑, dot, row, quad}
+use Rattle.duality.specs.Sums.{Vector, dot, row, quad}
 use Rattle.duality.specs.Problem.{Problem, cost, slope}
 use Rattle.duality.specs.Convex.{Symmetric}
 use Rattle.duality.proofs.Ring.{lin, ring, *ℤ-distl}

@@ -1,14 +1,13 @@
 -- How large a number can be, by natAbs: what code needs so that its sums and products fit their types.
 use Prim.Native.Nat.{ℕ, zero, suc, _+_, _*_, _≤_, _<_}
-use mathlib.Core.Path.{_≡_, refl, sym}
+use mathlib.Core.Path.{_≡_, refl}
 use native.Mathlib.Nat.{mul-le-mul}
 use native.Mathlib.Omega.{arith}
 use lib.IntN.{ℤ, pos, negsuc, _+ℤ_, _-ℤ_, _*ℤ_, negℤ, natAbs}
-use lib.Signed.{_≤ℤ_}
-use borrow.Author.Differences.{abs-is, neg-is}
+use borrow.Author.Differences.{abs-is}
 use Rattle.std.specs.Numbers.{maxZ, minZ}
 use Rattle.std.proofs.shelf.Signed.{clamps}
-use Rattle.duality.specs.Sums.{Vector, Matrix, ∑, dot, quad}
+use Rattle.duality.specs.Sums.{Vector, ∑, dot}
 use Rattle.duality.proofs.Ring.{lin}
 
 -- for omega: `lin`, and natAbs

@@ -2,21 +2,21 @@
 --
 -- 1,048,576·dᵀG d is the sum of the squares of L d, and dᵀR d. The diagonal of R outweighs the rest of each row, and since R is symmetric also
 -- of each column: so it pays for |R_ij| (d_i² + d_j²) at each place beside it, and that covers 2 d_i R_ij d_j whatever the signs.
-use Prim.Native.Nat.{ℕ, suc, _<_}
+use Prim.Native.Nat.{ℕ, suc}
 use mathlib.Core.Path.{_≡_, refl, sym, ap, _∙_}
-use mathlib.Core.Bool.{Bool, true, false, cond}
+use mathlib.Core.Bool.{Bool, cond}
 use native.Mathlib.Omega.{arith}
 use native.Mathlib.Decide.{ℕ-discrete}
 use lib.Dec.{eqb}
-use borrow.Author.Tests.{eqb-true, eq-eqb, ne-eqb}
+use borrow.Author.Tests.{eq-eqb, ne-eqb}
 use borrow.Author.Differences.{product-is}
 use lib.IntN.{ℤ, pos, negsuc, _+ℤ_, _-ℤ_, _*ℤ_, negℤ, zero-*ℤ, *ℤ-comm}
 use lib.Signed.{_≤ℤ_}
 use Rattle.duality.specs.Sums.{Vector, Matrix, ∑, row, quad, absℤ}
-use Rattle.duality.specs.Convex.{Symmetric, remainder, around, Dominant, Slip-sound}
+use Rattle.duality.specs.Convex.{Symmetric, remainder, beside, around, Dominant, Slip-sound}
 use Rattle.duality.proofs.Ring.{lin, ring}
 use Rattle.duality.proofs.Order.{*ℤ-nonneg, square-nonneg, *ℤ-le}
-use Rattle.duality.proofs.Sums.{∑-cong, ∑-le, ∑-add, ∑-scaled, ∑-swap, ∑-nonneg, ∑-pick, ∑∑-cong, ∑∑-add}
+use Rattle.duality.proofs.Sums.{∑-le, ∑-add, ∑-scaled, ∑-swap, ∑-nonneg, ∑-pick, ∑∑-cong, ∑∑-add}
 use Rattle.duality.proofs.Forms.{form-minus, quad-gram}
 
 -- 2 x r y + |r| x² + |r| y² is |r| times a square
@@ -33,10 +33,6 @@ balance-neg x s y h =
 balance : (x r y : ℤ) → pos 0 ≤ℤ ((x *ℤ r *ℤ y +ℤ x *ℤ r *ℤ y) +ℤ (absℤ r *ℤ (x *ℤ x) +ℤ absℤ r *ℤ (y *ℤ y)))
 balance x (pos n) y = balance-pos x (pos n) y (omega (arith, lin))
 balance x (negsuc n) y = balance-neg x (pos (suc n)) y (omega (arith, lin))
-
--- |R_ij| beside the diagonal, and 0 on it
-abbrev beside : Matrix → Matrix
-beside R i j = cond (eqb i j) (pos 0) (absℤ (R i j))
 
 beside-symmetric : (n : ℕ) (R : Matrix) → Symmetric n R → Symmetric n (beside R)
 beside-symmetric n R h i j k l = go (ℕ-discrete i j)
@@ -111,17 +107,17 @@ module _ (n : ℕ) (R : Matrix) (d : Vector) where
 
 remainder-symmetric : (n : ℕ) (G L : Matrix) → Symmetric n G → Symmetric n (remainder n G L)
 unfolding remainder
-remainder-symmetric n G L s i j k l =
-    ap (λ (z : ℤ). pos 1048576 *ℤ z -ℤ ∑ n (λ m. L m i *ℤ L m j)) (s i j k l)
-    ∙ ap (λ (z : ℤ). pos 1048576 *ℤ G j i -ℤ z) (∑-cong n (λ m. L m i *ℤ L m j) (λ m. L m j *ℤ L m i) (λ m _. *ℤ-comm (L m i) (L m j)))
+remainder-symmetric n G L s i j k l = rw (s i j k l) (simp *ℤ-comm)
 
 pub slip-sound : Slip-sound
 unfolding remainder
 slip-sound n G L s h d =
-    put (quad n G d) (quad n (λ i j. ∑ n (λ k. L k i *ℤ L k j)) d) (quad n (remainder n G L) d) (∑ n (λ k. row n L d k *ℤ row n L d k))
-    (form-minus n (pos 1048576) G (λ i j. ∑ n (λ k. L k i *ℤ L k j)) d d) (quad-gram n L d)
-    (∑-nonneg n (λ k. row n L d k *ℤ row n L d k) (λ k _. square-nonneg (row n L d k)))
-    (dominant-nonneg n (remainder n G L) d (remainder-symmetric n G L s) h)
-  where
-    put : (x m r q : ℤ) → r ≡ pos 1048576 *ℤ x -ℤ m → m ≡ q → pos 0 ≤ℤ q → pos 0 ≤ℤ r → pos 0 ≤ℤ x
-    put x m r q a b c e = omega (arith, lin, product-is (pos 1048576) x)
+    omega (
+      arith,
+      lin,
+      product-is (pos 1048576) (quad n G d),
+      form-minus n (pos 1048576) G (λ i j. ∑ n (λ k. L k i *ℤ L k j)) d d,
+      quad-gram n L d,
+      ∑-nonneg n (λ k. row n L d k *ℤ row n L d k) (λ k _. square-nonneg (row n L d k)),
+      dominant-nonneg n (remainder n G L) d (remainder-symmetric n G L s) h,
+    )

@@ -4,7 +4,7 @@
 -- and so does what is left of the gradient, against the bounds.
 use Prim.Native.Nat.{ℕ, _<_}
 use mathlib.Core.Path.{_≡_}
-use lib.IntN.{ℤ, pos}
+use lib.IntN.{pos}
 use lib.Signed.{_<ℤ_}
 use Rattle.duality.specs.Sums.{Vector}
 use Rattle.duality.specs.Problem.{Problem, Feasible, rowAt}

@@ -21,10 +21,15 @@ Convex n G = (d : Vector) → pos 0 ≤ℤ quad n G d
 unfoldable pub remainder : ℕ → Matrix → Matrix → Matrix
 remainder n G L i j = pos 1048576 *ℤ G i j -ℤ ∑ n (λ k. L k i *ℤ L k j)
 
+-- |R_ij| beside the diagonal, and 0 on it
+abbrev pub beside : Matrix → Matrix
+beside R i j = cond (eqb i j) (pos 0) (absℤ (R i j))
+
 -- the sum of |R_ij| over each j but i
 unfoldable pub around : ℕ → Matrix → ℕ → ℤ
-around n R i = ∑ n (λ j. cond (eqb i j) (pos 0) (absℤ (R i j)))
+around n R i = ∑ n (λ j. beside R i j)
 
+-- each R_ii is at least that sum
 abbrev pub Dominant : ℕ → Matrix → Type 0
 Dominant n R = (i : ℕ) → i < n → around n R i ≤ℤ R i i
 

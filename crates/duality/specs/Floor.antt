@@ -1,8 +1,6 @@
 -- The floor that a pair shows: a point p, which may break rows and bounds, and a multiplier for each row.
 --
 -- The multiplier y_i stands for y_i ÷ 256, so a floor is compared with 256 times a cost. Multipliers may have any sign.
-use Prim.Native.Nat.{ℕ}
-use mathlib.Core.Path.{_≡_}
 use lib.IntN.{ℤ, pos, _+ℤ_, _-ℤ_, _*ℤ_}
 use lib.Signed.{_≤ℤ_, _<ℤ_}
 use Rattle.std.specs.Numbers.{maxZ}
@@ -31,19 +29,19 @@ floor P p y = pos 256 *ℤ cost P p -ℤ pos 2 *ℤ slack P p y
 abbrev pub gap : Problem → Vector → Vector → Vector → ℤ
 gap P p y z = pos 256 *ℤ cost P z -ℤ floor P p y
 
--- Theorem: under a convex cost, no feasible point lies below a pair's floor, wherever the pair's point lies.
+-- v is at most 256 times the cost of every feasible point
+abbrev pub Lower-bound : Problem → ℤ → Type 0
+Lower-bound P v = (z : Vector) → Feasible P z → v ≤ℤ (pos 256 *ℤ cost P z)
+
+-- Theorem: under a convex cost the floor of any pair is a lower bound, wherever its point lies.
 abbrev pub Floor-sound : Type 0
-Floor-sound =
-    (P : Problem) → Symmetric (P .ropes) (P .G) → Convex (P .ropes) (P .G) →
-    (p y z : Vector) → Feasible P z → floor P p y ≤ℤ (pos 256 *ℤ cost P z)
+Floor-sound = (P : Problem) → Symmetric (P .ropes) (P .G) → Convex (P .ropes) (P .G) → (p y : Vector) → Lower-bound P (floor P p y)
 
--- Theorem: the same from a slip that holds, with no word of convexity.
+-- Theorem: so it is where a slip holds, with no word of convexity.
 abbrev pub Slip-floor : Type 0
-Slip-floor =
-    (P : Problem) (L : Matrix) → Symmetric (P .ropes) (P .G) → Slip-holds (P .ropes) (P .G) L →
-    (p y z : Vector) → Feasible P z → floor P p y ≤ℤ (pos 256 *ℤ cost P z)
+Slip-floor = (P : Problem) (L : Matrix) → Symmetric (P .ropes) (P .G) → Slip-holds (P .ropes) (P .G) L → (p y : Vector) → Lower-bound P (floor P p y)
 
--- Theorem: 256 times what any feasible point x saves over z is at most the gap of z.
+-- Theorem: whatever a feasible point x saves over z, 256 times that is at most the gap of z.
 abbrev pub Gap-sound : Type 0
 Gap-sound =
     (P : Problem) (L : Matrix) → Symmetric (P .ropes) (P .G) → Slip-holds (P .ropes) (P .G) L →

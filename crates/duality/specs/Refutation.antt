@@ -1,20 +1,26 @@
 -- Multipliers that show that no point is feasible.
 --
 -- The multipliers y, here plain whole numbers of any sign, weigh the rows into one: yᵀA z. The bounds cap that sum, the rows hold it up.
-use Prim.Native.Nat.{ℕ}
 use lib.IntN.{ℤ, _*ℤ_}
 use lib.Signed.{_<ℤ_}
 use Rattle.std.specs.Numbers.{maxZ, minZ}
 use Rattle.duality.specs.Sums.{Vector, ∑, column}
 use Rattle.duality.specs.Problem.{Problem, Feasible}
 
+-- the most and the least that w·v can be while v runs from low to high
+abbrev pub highest : ℤ → ℤ → ℤ → ℤ
+highest w low high = maxZ (w *ℤ low) (w *ℤ high)
+
+abbrev pub lowest : ℤ → ℤ → ℤ → ℤ
+lowest w low high = minZ (w *ℤ low) (w *ℤ high)
+
 -- the most that yᵀA z can be within the bounds
 unfoldable pub most : Problem → Vector → ℤ
-most P y = ∑ (P .ropes) (λ j. maxZ (column (P .rows) (P .A) y j *ℤ P .l j) (column (P .rows) (P .A) y j *ℤ P .u j))
+most P y = ∑ (P .ropes) (λ j. highest (column (P .rows) (P .A) y j) (P .l j) (P .u j))
 
 -- the least that it can be within the rows' limits
 unfoldable pub least : Problem → Vector → ℤ
-least P y = ∑ (P .rows) (λ i. minZ (y i *ℤ P .lo i) (y i *ℤ P .hi i))
+least P y = ∑ (P .rows) (λ i. lowest (y i) (P .lo i) (P .hi i))
 
 abbrev pub Refutes : Problem → Vector → Type 0
 Refutes P y = most P y <ℤ least P y
