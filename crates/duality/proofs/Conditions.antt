@@ -1,5 +1,5 @@
 -- Under the optimality conditions each term of the slack is 0.
-use mathlib.Core.Path.{_≡_, refl, ap}
+use mathlib.Core.Path.{_≡_, ap}
 use native.Mathlib.Omega.{arith}
 use lib.IntN.{ℤ, pos, _-ℤ_, _*ℤ_, zero-*ℤ, *ℤ-zero}
 use lib.Signed.{_≤ℤ_, _<ℤ_}
@@ -27,7 +27,7 @@ furthest-tight w x low high a b e f = by-ltZ (pos 0) w up-press (λ n. by-ltZ w 
         omega (arith, lin, clamps, ap (λ (t : ℤ). w *ℤ t) touch, *ℤ-zero w, *ℤ-ge w (pos 0) (x -ℤ low) (omega (arith, lin)) (omega (arith, lin)))
 
     none : w ≡ pos 0 → furthest w x low high ≡ pos 0
-    none z = rw z (rw (zero-*ℤ (x -ℤ low), zero-*ℤ (x -ℤ high)) refl)
+    none z = rw (z, zero-*ℤ (x -ℤ low), zero-*ℤ (x -ℤ high))
 
 slack-tight : (P : Problem) (p y : Vector) → Conditions P p y → slack P p y ≡ pos 0
 unfolding slack

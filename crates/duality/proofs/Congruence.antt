@@ -6,7 +6,7 @@ use lib.IntN.{ℤ, _+ℤ_, _*ℤ_}
 use Rattle.duality.specs.Sums.{Vector, Matrix, ∑, dot, row, column, quad}
 use Rattle.duality.specs.Problem.{Problem, Feasible, cost, rowAt, slope}
 use Rattle.duality.specs.Floor.{residual, furthest, slack, floor}
-use Rattle.duality.specs.Refutation.{highest, lowest, most, least}
+use Rattle.duality.specs.Refutation.{highest, lowest, most-allowed, least-needed}
 use Rattle.duality.proofs.Sums.{∑-cong, ∑∑-cong}
 
 abbrev pub Agree : ℕ → Vector → Vector → Type 0
@@ -110,9 +110,9 @@ module _ (P Q : Problem) (s : Same P Q) where
   pub floor-cong : (p q y w : Vector) → Agree (P .ropes) p q → Agree (P .rows) y w → floor P p y ≡ floor Q q w
   floor-cong p q y w h k = rw (cost-cong p q h, slack-cong p q y w h k)
 
-  pub most-cong : (y w : Vector) → Agree (P .rows) y w → most P y ≡ most Q w
-  unfolding most
-  most-cong y w k =
+  pub most-allowed-cong : (y w : Vector) → Agree (P .rows) y w → most-allowed P y ≡ most-allowed Q w
+  unfolding most-allowed
+  most-allowed-cong y w k =
       ∑-cong (P .ropes) (λ j. highest (a j) (P .l j) (P .u j)) (λ j. highest (b j) (Q .l j) (Q .u j))
       (λ j l. rw (weights-cong y w j l k, s .l j l, s .u j l))
       ∙ ap (λ (n : ℕ). ∑ n (λ j. highest (b j) (Q .l j) (Q .u j))) (s .ropes)
@@ -123,8 +123,8 @@ module _ (P Q : Problem) (s : Same P Q) where
       b : Vector
       b = column (Q .rows) (Q .A) w
 
-  pub least-cong : (y w : Vector) → Agree (P .rows) y w → least P y ≡ least Q w
-  unfolding least
-  least-cong y w k =
+  pub least-needed-cong : (y w : Vector) → Agree (P .rows) y w → least-needed P y ≡ least-needed Q w
+  unfolding least-needed
+  least-needed-cong y w k =
       ∑-cong (P .rows) (λ i. lowest (y i) (P .lo i) (P .hi i)) (λ i. lowest (w i) (Q .lo i) (Q .hi i)) (λ i l. rw (k i l, s .lo i l, s .hi i l))
       ∙ ap (λ (m : ℕ). ∑ m (λ i. lowest (w i) (Q .lo i) (Q .hi i))) (s .rows)

@@ -1,6 +1,6 @@
 -- The cost by the rows of G, and from one point to another.
 use Prim.Native.Nat.{ℕ}
-use mathlib.Core.Path.{_≡_, sym, ap, _∙_}
+use mathlib.Core.Path.{_≡_, _∙_}
 use native.Mathlib.Omega.{arith}
 use lib.IntN.{ℤ, pos, _+ℤ_, _-ℤ_, _*ℤ_}
 use Rattle.duality.specs.Sums.{Vector, ∑, dot, row, quad}
@@ -11,16 +11,18 @@ use Rattle.duality.proofs.Sums.{∑-cong, ∑-add, ∑-scale}
 use Rattle.duality.proofs.Forms.{dot-add, dot-comm, form-rows, quad-add}
 use Rattle.duality.proofs.Congruence.{cost-cong, same-refl}
 
--- one pass over the rows of G suffices
+-- for one pass over the rows of G
 pub cost-rows : (P : Problem) (z : Vector) → cost P z ≡ ∑ (P .ropes) (λ i. z i *ℤ (row (P .ropes) (P .G) z i +ℤ pos 2 *ℤ P .c i))
 unfolding cost
 cost-rows P z =
-    sym (
-    ∑-cong n (λ i. z i *ℤ (row n (P .G) z i +ℤ pos 2 *ℤ P .c i)) (λ i. z i *ℤ row n (P .G) z i +ℤ pos 2 *ℤ (P .c i *ℤ z i))
-    (λ i _. term (z i) (row n (P .G) z i) (P .c i))
-    ∙ ∑-add n (λ i. z i *ℤ row n (P .G) z i) (λ i. pos 2 *ℤ (P .c i *ℤ z i))
-    ∙ ap (λ (t : ℤ). t +ℤ ∑ n (λ i. pos 2 *ℤ (P .c i *ℤ z i))) (sym (form-rows n (P .G) z z))
-    ∙ ap (λ (t : ℤ). quad n (P .G) z +ℤ t) (∑-scale n (pos 2) (λ i. P .c i *ℤ z i))
+    omega (
+      arith,
+      lin,
+      form-rows n (P .G) z z,
+      ∑-scale n (pos 2) (λ i. P .c i *ℤ z i),
+      ∑-add n (λ i. z i *ℤ row n (P .G) z i) (λ i. pos 2 *ℤ (P .c i *ℤ z i)),
+      ∑-cong n (λ i. z i *ℤ (row n (P .G) z i +ℤ pos 2 *ℤ P .c i)) (λ i. z i *ℤ row n (P .G) z i +ℤ pos 2 *ℤ (P .c i *ℤ z i))
+          (λ i _. term (z i) (row n (P .G) z i) (P .c i)),
     )
   where
     n : ℕ

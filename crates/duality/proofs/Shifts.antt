@@ -1,4 +1,4 @@
--- A vector of which one place changes: its sums, rows, slope and cost from those of the old one, at a price that does not grow with the square form.
+-- A vector of which one place changes: its products, slope and cost from those before, with no sum run again.
 use Prim.Native.Nat.{ℕ, _<_}
 use mathlib.Core.Path.{_≡_, ap, _∙_}
 use native.Mathlib.Omega.{arith}
@@ -29,8 +29,8 @@ slope-shift P j d x y i s = omega (arith, lin, dot-shift (P .ropes) j d (P .G i)
 pub cost-shift : (P : Problem) (j : ℕ) (d : ℤ) (x y : Vector) → Symmetric (P .ropes) (P .G) → Shift (P .ropes) j d x y →
     cost P y ≡ cost P x +ℤ d *ℤ (pos 2 *ℤ slope P x j +ℤ d *ℤ P .G j j)
 cost-shift P j d x y g s =
-    put (cost P y) (cost P x) (slope P x j) (P .G j j) (dot n (slope P x) step) (row n (P .G) step j) (quad n (P .G) step) (cost-from P x y g)
-    (along (slope P x)) (along (P .G j)) (form-rows n (P .G) step step ∙ dot-comm n step (row n (P .G) step) ∙ along (row n (P .G) step))
+    put (cost P y) (cost P x) (slope P x j) (P .G j j) (dot n (slope P x) step) (quad n (P .G) step) (cost-from P x y g) (along (slope P x))
+    (form-rows n (P .G) step step ∙ dot-comm n step (row n (P .G) step) ∙ along (row n (P .G) step) ∙ ap (λ (t : ℤ). t *ℤ d) (along (P .G j)))
   where
     n : ℕ
     n = P .ropes
@@ -41,5 +41,5 @@ cost-shift P j d x y g s =
     along : (w : Vector) → dot n w step ≡ w j *ℤ d
     along w = omega (arith, lin, dot-sub n w y x, dot-shift n j d w x y s)
 
-    put : (Cy Cx S g D R Q : ℤ) → Cy ≡ Cx +ℤ (pos 2 *ℤ D +ℤ Q) → D ≡ S *ℤ d → R ≡ g *ℤ d → Q ≡ R *ℤ d → Cy ≡ Cx +ℤ d *ℤ (pos 2 *ℤ S +ℤ d *ℤ g)
-    put Cy Cx S g D R Q e p q r = rw (e, p, r, q) (simp ring (omega (arith, lin)))
+    put : (Cy Cx S g D Q : ℤ) → Cy ≡ Cx +ℤ (pos 2 *ℤ D +ℤ Q) → D ≡ S *ℤ d → Q ≡ g *ℤ d *ℤ d → Cy ≡ Cx +ℤ d *ℤ (pos 2 *ℤ S +ℤ d *ℤ g)
+    put Cy Cx S g D Q e p q = rw (e, p, q) (simp ring (omega (arith, lin)))

@@ -4,10 +4,8 @@
 -- of each column: so it pays for |R_ij| (d_i² + d_j²) at each place beside it, and that covers 2 d_i R_ij d_j whatever the signs.
 use Prim.Native.Nat.{ℕ, suc}
 use mathlib.Core.Path.{_≡_, refl, sym, ap, _∙_}
-use mathlib.Core.Bool.{Bool, cond}
 use native.Mathlib.Omega.{arith}
 use native.Mathlib.Decide.{ℕ-discrete}
-use lib.Dec.{eqb}
 use borrow.Author.Tests.{eq-eqb, ne-eqb}
 use borrow.Author.Differences.{product-is}
 use lib.IntN.{ℤ, pos, negsuc, _+ℤ_, _-ℤ_, _*ℤ_, negℤ, zero-*ℤ, *ℤ-comm}
@@ -39,9 +37,7 @@ beside-symmetric n R h i j k l = go (ℕ-discrete i j)
   where
     go : Dec (i ≡ j) → beside R i j ≡ beside R j i
     go (yes e) = rw e
-    go (no ne) =
-        ap (λ (t : Bool). cond t (pos 0) (absℤ (R i j))) (ne-eqb i j ne ∙ sym (ne-eqb j i (λ q. ne (sym q))))
-        ∙ ap (λ (z : ℤ). cond (eqb j i) (pos 0) (absℤ z)) (h i j k l)
+    go (no ne) = rw (h i j k l, ne-eqb i j ne, ne-eqb j i (λ q. ne (sym q)))
 
 -- a term of the form, twice, with what balances it
 abbrev held : Matrix → Vector → Matrix

@@ -16,12 +16,13 @@ residual P p y j = pos 256 *ℤ slope P p j -ℤ column (P .rows) (P .A) y j
 abbrev pub furthest : ℤ → ℤ → ℤ → ℤ → ℤ
 furthest w x low high = maxZ (w *ℤ (x -ℤ low)) (w *ℤ (x -ℤ high))
 
--- g, by how much at most a feasible point can lie lower than p along the slope at p
+-- g, the most by which 256·(G p + c)ᵀd can fall along a way d from p to a feasible point
 unfoldable pub slack : Problem → Vector → Vector → ℤ
 slack P p y =
     ∑ (P .rows) (λ i. furthest (y i) (rowAt P p i) (P .lo i) (P .hi i))
     +ℤ ∑ (P .ropes) (λ j. furthest (residual P p y j) (p j) (P .l j) (P .u j))
 
+-- half of the gradient made the slack, so the slack counts twice
 abbrev pub floor : Problem → Vector → Vector → ℤ
 floor P p y = pos 256 *ℤ cost P p -ℤ pos 2 *ℤ slack P p y
 

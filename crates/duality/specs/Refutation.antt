@@ -14,16 +14,16 @@ highest w low high = maxZ (w *ℤ low) (w *ℤ high)
 abbrev pub lowest : ℤ → ℤ → ℤ → ℤ
 lowest w low high = minZ (w *ℤ low) (w *ℤ high)
 
--- the most that yᵀA z can be within the bounds
-unfoldable pub most : Problem → Vector → ℤ
-most P y = ∑ (P .ropes) (λ j. highest (column (P .rows) (P .A) y j) (P .l j) (P .u j))
+-- the most that the bounds allow yᵀA z to be
+unfoldable pub most-allowed : Problem → Vector → ℤ
+most-allowed P y = ∑ (P .ropes) (λ j. highest (column (P .rows) (P .A) y j) (P .l j) (P .u j))
 
--- the least that it can be within the rows' limits
-unfoldable pub least : Problem → Vector → ℤ
-least P y = ∑ (P .rows) (λ i. lowest (y i) (P .lo i) (P .hi i))
+-- the least that the rows' limits need it to be
+unfoldable pub least-needed : Problem → Vector → ℤ
+least-needed P y = ∑ (P .rows) (λ i. lowest (y i) (P .lo i) (P .hi i))
 
 abbrev pub Refutes : Problem → Vector → Type 0
-Refutes P y = most P y <ℤ least P y
+Refutes P y = most-allowed P y <ℤ least-needed P y
 
 -- Theorem: multipliers that refute leave no feasible point.
 abbrev pub None-sound : Type 0
