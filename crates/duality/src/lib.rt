@@ -1,53 +1,42 @@
-// Theorems on the integer certificates of a quadratic program: each stands as the contract of a function.
-ghost use Rattle.duality.specs.Laws.{Ring-laws, Sum-laws};
+//! Why a floor is a floor, and why a proof of none is a proof.
+//!
+//! Each function does nothing and promises a theorem on whole numbers, which callers' proofs can use. The statements stand in specs/.
 ghost use Rattle.duality.specs.Convex.{Slip-sound};
-ghost use Rattle.duality.specs.Bounds.{Floor-sound, Floor-scaled, None-sound, None-scaled};
+ghost use Rattle.duality.specs.Floor.{Floor-sound, Slip-floor, Gap-sound, Gap-closed};
+ghost use Rattle.duality.specs.Conditions.{Conditions-tight};
+ghost use Rattle.duality.specs.Refutation.{None-sound};
 
-// The laws of the ring of integers and of its order.
-pub fn ring_laws() -> u8
-    ensures { λ _. ⌜ Ring-laws ⌝ }
-{
-    0
-}
-
-// The laws of finite sums.
-pub fn sum_laws() -> u8
-    ensures { λ _. ⌜ Sum-laws ⌝ }
-{
-    0
-}
-
-// A matrix whose slip past a square is dominated by its diagonal has a square form that is never negative.
-pub fn slip_sound() -> u8
+/// A slip that holds shows that the quadratic form of a symmetric matrix is never negative.
+pub fn slip_is_sound()
     ensures { λ _. ⌜ Slip-sound ⌝ }
-{
-    0
-}
+{}
 
-// The floor that a point and multipliers show is below the cost of every feasible point.
-pub fn floor_sound() -> u8
+/// Under a convex cost, the floor of a pair is at most 256 times the cost of every feasible point.
+pub fn floor_is_sound()
     ensures { λ _. ⌜ Floor-sound ⌝ }
-{
-    0
-}
+{}
 
-// The same of a point at the scale k, as z/k.
-pub fn floor_scaled() -> u8
-    ensures { λ _. ⌜ Floor-scaled ⌝ }
-{
-    0
-}
+/// The floor holds wherever a slip does: `slip_is_sound` and `floor_is_sound` in one.
+pub fn slip_gives_floor()
+    ensures { λ _. ⌜ Slip-floor ⌝ }
+{}
 
-// Where the multipliers ask for more than the bounds give, there is no feasible point.
-pub fn none_sound() -> u8
+/// No feasible point is cheaper than a given one by more than the gap of that one, divided by 256.
+pub fn gap_is_sound()
+    ensures { λ _. ⌜ Gap-sound ⌝ }
+{}
+
+/// A feasible point whose gap is below 256 is optimal.
+pub fn closed_gap_is_optimal()
+    ensures { λ _. ⌜ Gap-closed ⌝ }
+{}
+
+/// A pair that meets the optimality conditions leaves its own point no gap.
+pub fn conditions_close_gap()
+    ensures { λ _. ⌜ Conditions-tight ⌝ }
+{}
+
+/// Multipliers that refute leave no feasible point.
+pub fn refutation_is_sound()
     ensures { λ _. ⌜ None-sound ⌝ }
-{
-    0
-}
-
-// The same at every scale k from 1 on.
-pub fn none_scaled() -> u8
-    ensures { λ _. ⌜ None-scaled ⌝ }
-{
-    0
-}
+{}
