@@ -4,3 +4,4 @@ pub mod Spots
 pub mod Whole
 pub mod Laying
 pub mod Passing
+pub mod Filling

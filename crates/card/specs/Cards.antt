@@ -6,8 +6,9 @@ use lib.IntN.{ℤ, pos}
 use Rattle.block.specs.Blocks.{blockAt, blockOf, numbersOf}
 use Rattle.card.specs.declared.kind.Kind.{Kind}
 use Rattle.card.specs.declared.kind.Kind.the-variants.{Head, Curvature, Rows, Costs, Bounds, Limits, Slip}
+use Rattle.card.specs.declared.sizes.Sizes.{Sizes}
 use Rattle.card.specs.Kinds.{letterOf}
-use Rattle.card.specs.Layout.{blocksFor, countOf, firstOf}
+use Rattle.card.specs.Layout.{blocksFor, countOf, firstOf, startOf, numbersFor}
 
 -- b blocks under one letter from block k on: 126 numbers to a block
 abbrev pub laid : ℕ → ℕ → List ℤ → ℕ → List ℕ
@@ -16,6 +17,10 @@ laid letter k nums (suc b) = blockOf letter k (take 126 nums) ++ laid letter (k 
 
 unfoldable pub sectionOf : ℕ → ℕ → (Kind → List ℤ) → Kind → List ℕ
 sectionOf n m nums kind = laid (letterOf kind) (firstOf kind n m) (nums kind) (blocksFor (countOf kind n m))
+
+-- the same for sizes as a value
+abbrev pub sectionLaid : Sizes → Kind → List ℤ → List ℕ
+sectionLaid s kind nums = laid (letterOf kind) (startOf s kind) nums (blocksFor (numbersFor s kind))
 
 -- the head block
 abbrev pub headOf : ℕ → ℕ → List ℕ

@@ -45,3 +45,13 @@ pub record InRange (n m : ℕ) : Type 0 where
 abbrev pub Sized : Option Sizes → ℕ → ℕ → Type 0
 Sized None n m = InRange n m → ⊥
 Sized (Some s) n m = (s .ropes ≡ n) × (s .rows ≡ m) × InRange n m
+
+-- the same for sizes as a value
+abbrev pub startOf : Sizes → Kind → ℕ
+startOf s kind = firstOf kind (s .ropes) (s .rows)
+
+abbrev pub numbersFor : Sizes → Kind → ℕ
+numbersFor s kind = countOf kind (s .ropes) (s .rows)
+
+abbrev pub bytesFor : Sizes → ℕ
+bytesFor s = blocksIn (s .ropes) (s .rows) * 512

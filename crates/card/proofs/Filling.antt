@@ -1,0 +1,48 @@
+-- The contents of a card: counts and fits of the sections, kind by kind.
+use Prim.Native.Nat.{ℕ, _*_}
+use mathlib.Core.Path.{_≡_, refl, sym, ap, _∙_}
+use mathlib.Core.List.{List, [], _∷_}
+use native.Mathlib.Omega.{arith}
+use lib.IntN.{ℤ, pos}
+use lib.ListN.{length}
+use lib.Seq.{paste}
+use mir.Val.{toZ}
+use mir.Syntax.{w32}
+use Rattle.std.proofs.shelf.Lists.{append-nil}
+use Rattle.std.proofs.shelf.Signed.{toZ-pos}
+use Rattle.card.specs.declared.kind.Kind.{Kind}
+use Rattle.card.specs.declared.kind.Kind.the-variants.{Head, Curvature, Rows, Costs, Bounds, Limits, Slip}
+use Rattle.card.specs.declared.contents.Contents.{Contents}
+use Rattle.card.specs.declared.sizes.Sizes.{Sizes}
+use Rattle.card.specs.Layout.{blocksFor, startOf, numbersFor}
+use Rattle.card.specs.Contents.{numbers, Counted}
+use Rattle.card.specs.Cards.{sectionLaid, headOf}
+
+-- contents have what their sizes ask for
+pub all-counted : (x : Contents) → Counted (x .sizes) (numbers x)
+all-counted x Head = refl
+all-counted x Curvature = sym (x .curvature .ok .0) ∙ x .square
+all-counted x Rows = sym (x .rows .ok .0) ∙ x .lined
+all-counted x Costs = sym (x .costs .ok .0) ∙ x .priced
+all-counted x Bounds = sym (x .bounds .ok .0) ∙ x .bounded
+all-counted x Limits = sym (x .limits .ok .0) ∙ x .limited
+all-counted x Slip = sym (x .slip .ok .0) ∙ x .slipped
+
+-- writing a section's numbers is writing the numbers that they are
+pub section-as : (s : Sizes) (kind : Kind) (o o′ : List ℕ) (xs ys : List ℤ) → xs ≡ ys
+    → o′ ≡ paste o (startOf s kind * 512) (sectionLaid s kind xs) (blocksFor (numbersFor s kind) * 512)
+    → o′ ≡ paste o (startOf s kind * 512) (sectionLaid s kind ys) (blocksFor (numbersFor s kind) * 512)
+section-as s kind o o′ xs ys e w = w ∙ ap (λ zs. paste o (startOf s kind * 512) (sectionLaid s kind zs) (blocksFor (numbersFor s kind) * 512)) e
+
+-- the head as a section is its one block
+pub head-as : (s : Sizes) (o o′ : List ℕ) (xs : List ℤ) → xs ≡ pos (s .ropes) ∷ pos (s .rows) ∷ []
+    → o′ ≡ paste o (startOf s Head * 512) (sectionLaid s Head xs) (blocksFor (numbersFor s Head) * 512) → o′ ≡ paste o 0 (headOf (s .ropes) (s .rows)) 512
+head-as s o o′ xs e w =
+    section-as s Head o o′ xs (pos (s .ropes) ∷ pos (s .rows) ∷ []) e w ∙ ap (λ b. paste o 0 b 512) (append-nil (headOf (s .ropes) (s .rows)))
+
+-- the sizes as four-byte numbers
+pub sizes-as : (s : Sizes) → toZ w32 (s .ropes) ∷ toZ w32 (s .rows) ∷ [] ≡ pos (s .ropes) ∷ pos (s .rows) ∷ []
+sizes-as s =
+    let n : toZ w32 (s .ropes) ≡ pos (s .ropes) = toZ-pos w32 (s .ropes) (omega (arith, s .few)) in
+    let m : toZ w32 (s .rows) ≡ pos (s .rows) = toZ-pos w32 (s .rows) (omega (arith, s .short)) in
+    ap (λ z. z ∷ toZ w32 (s .rows) ∷ []) n ∙ ap (λ z. pos (s .ropes) ∷ z ∷ []) m
