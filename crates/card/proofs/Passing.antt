@@ -139,10 +139,10 @@ module _ (n m : ℕ) (sizes : InRange n m) where
   -- a card that begins with the head
   module _ (K : List ℕ) (hd : blockAt K 0 ≡ headOf n m) where
     pub card-n : num K 4 ≡ pos n
-    card-n = sym (num-of K 0 4 4 (omega arith) refl) ∙ (ap (λ b. num b 4) hd ∙ head-n)
+    card-n = sym (num-of K 512 0 4 4 (omega arith) refl) ∙ (ap (λ b. num b 4) hd ∙ head-n)
 
     pub card-m : num K 8 ≡ pos m
-    card-m = sym (num-of K 0 8 8 (omega arith) refl) ∙ (ap (λ b. num b 8) hd ∙ head-m)
+    card-m = sym (num-of K 512 0 8 8 (omega arith) refl) ∙ (ap (λ b. num b 8) hd ∙ head-m)
 
     head-passes : headCheck K ≡ Ok tt
     head-passes =

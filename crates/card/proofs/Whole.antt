@@ -133,8 +133,8 @@ module _ (card : List ℕ) (small : (k : ℕ) → getD card k 0 < 256) where
       let c = z .1 in
       let pass : blockCheck h 72 0 2 ≡ Ok tt = rw (a, b, c) in
       let whole : length h ≡ 512 = simp length-take (omega arith) in
-      let first : num h 4 ≡ pos (nOf card) = num-of card 0 4 4 (omega arith) refl ∙ sym (size-is 1 (num card 4) (q .0)) in
-      let second : num h 8 ≡ pos (mOf card) = num-of card 0 8 8 (omega arith) refl ∙ sym (size-is 0 (num card 8) (r .0)) in
+      let first : num h 4 ≡ pos (nOf card) = num-of card 512 0 4 4 (omega arith) refl ∙ sym (size-is 1 (num card 4) (q .0)) in
+      let second : num h 8 ≡ pos (mOf card) = num-of card 512 0 8 8 (omega arith) refl ∙ sym (size-is 0 (num card 8) (r .0)) in
       block-back h (small-at 0) whole 72 0 2 (omega arith) (passed h 72 0 2 pass)
       ∙ (ap (λ x. blockOf 72 0 (x ∷ num h 8 ∷ [])) first ∙ ap (λ x. blockOf 72 0 (pos (nOf card) ∷ x ∷ [])) second)
 

@@ -8,6 +8,7 @@ mod names;
 mod section;
 mod sections;
 mod sizes;
+mod tried;
 mod writes;
 
 pub use block::Fault;
@@ -18,3 +19,4 @@ pub use contents::Contents;
 pub use kind::Kind;
 pub use section::Section;
 pub use sizes::Sizes;
+pub use tried::tried_head_sum;

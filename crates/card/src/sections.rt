@@ -1,6 +1,7 @@
 ghost use mathlib.Core.Path.{_≡_};
 ghost use Rattle.std.specs.Options.{mapped};
 ghost use Rattle.card.specs.Sections.{partOf, kindAt, runAt, sectionAt, valueAt};
+ghost use Rattle.card.specs.Laws.{Located};
 use crate::kind::Kind;
 use crate::layout::blocks_for;
 use crate::section::Section;
@@ -42,13 +43,20 @@ impl<'a> Section<'a> {
         }
     }
 
-    /// The section that starts at block `first` of a card of these sizes, named by that block's letter.
-    /// Nothing where the card ends before that block does, or where the letter names no section.
-    pub fn at(card: &'a [u8], first: u16, sizes: &Sizes) -> Option<Section<'a>>
+    fn find(card: &'a [u8], first: u16, sizes: &Sizes) -> Option<Section<'a>>
         ensures { λ r. ⌜ mapped partOf r ≡ sectionAt (now (card .entry)) first (now (sizes .entry) .ropes) (now (sizes .entry) .rows) ⌝ }
     {
         let kind = kind_at(card, first)?;
         Some(Section::new(kind, run_of(card, first, blocks_for(sizes.count(kind))), first))
+    }
+
+    /// The section that starts at block `first` of a card of these sizes, named by that block's letter.
+    /// Nothing where the card ends before that block does, or where the letter names no section.
+    pub fn at(card: &'a [u8], first: u16, sizes: &Sizes) -> Option<Section<'a>>
+        ensures value { λ r. ⌜ mapped partOf r ≡ sectionAt (now (card .entry)) first (now (sizes .entry) .ropes) (now (sizes .entry) .rows) ⌝ }
+        ensures located { λ r. ⌜ Located (now (card .entry)) first (now (sizes .entry) .ropes) (now (sizes .entry) .rows) (mapped partOf r) ⌝ }
+    {
+        Section::find(card, first, sizes)
     }
 
     /// What the section is.
