@@ -10,11 +10,11 @@ use mir.Val.{toZ}
 use mir.Syntax.{w32}
 use Rattle.std.proofs.shelf.Lists.{append-nil}
 use Rattle.std.proofs.shelf.Signed.{toZ-pos}
-use Rattle.card.specs.declared.kind.Kind.{Kind}
-use Rattle.card.specs.declared.kind.Kind.the-variants.{Head, Curvature, Rows, Costs, Bounds, Limits, Slip}
+use Rattle.section.specs.declared.kind.Kind.{Kind}
+use Rattle.section.specs.declared.kind.Kind.the-variants.{Head, Curvature, Rows, Costs, Bounds, Limits, Slip}
 use Rattle.card.specs.declared.contents.Contents.{Contents}
-use Rattle.card.specs.declared.sizes.Sizes.{Sizes}
-use Rattle.card.specs.Layout.{blocksFor, startOf, numbersFor}
+use Rattle.section.specs.declared.sizes.Sizes.{Sizes}
+use Rattle.section.specs.Layout.{blocksFor, startOf, numbersFor}
 use Rattle.card.specs.Contents.{numbers, Counted}
 use Rattle.card.specs.Cards.{sectionLaid, headOf}
 
@@ -41,8 +41,8 @@ head-as s o o′ xs e w =
     section-as s Head o o′ xs (pos (s .ropes) ∷ pos (s .rows) ∷ []) e w ∙ ap (λ b. paste o 0 b 512) (append-nil (headOf (s .ropes) (s .rows)))
 
 -- the sizes as four-byte numbers
-pub sizes-as : (s : Sizes) → toZ w32 (s .ropes) ∷ toZ w32 (s .rows) ∷ [] ≡ pos (s .ropes) ∷ pos (s .rows) ∷ []
-sizes-as s =
-    let n : toZ w32 (s .ropes) ≡ pos (s .ropes) = toZ-pos w32 (s .ropes) (omega (arith, s .few)) in
-    let m : toZ w32 (s .rows) ≡ pos (s .rows) = toZ-pos w32 (s .rows) (omega (arith, s .short)) in
-    ap (λ z. z ∷ toZ w32 (s .rows) ∷ []) n ∙ ap (λ z. pos (s .ropes) ∷ z ∷ []) m
+pub sizes-as : (s : Sizes) (a b : ℕ) → a ≡ s .ropes → b ≡ s .rows → toZ w32 a ∷ toZ w32 b ∷ [] ≡ pos (s .ropes) ∷ pos (s .rows) ∷ []
+sizes-as s a b e f =
+    let n : toZ w32 a ≡ pos a = toZ-pos w32 a (omega (arith, s .few)) in
+    let m : toZ w32 b ≡ pos b = toZ-pos w32 b (omega (arith, s .short)) in
+    ap (λ z. z ∷ toZ w32 b ∷ []) (n ∙ ap pos e) ∙ ap (λ z. pos (s .ropes) ∷ z ∷ []) (m ∙ ap pos f)

@@ -16,10 +16,10 @@ use Rattle.std.proofs.shelf.Parts.{putMid-paste}
 use Rattle.std.proofs.shelf.Tests.{cases-lt}
 use Rattle.block.specs.Blocks.{blockOf, Fit}
 use Rattle.block.proofs.Laying.{length-block, length-part}
-use Rattle.card.specs.declared.kind.Kind.{Kind}
-use Rattle.card.specs.declared.kind.Kind.the-variants.{Head, Curvature, Rows, Costs, Bounds, Limits, Slip}
-use Rattle.card.specs.Kinds.{letterOf}
-use Rattle.card.specs.Layout.{blocksFor, countOf, firstOf, blocksIn}
+use Rattle.section.specs.declared.kind.Kind.{Kind}
+use Rattle.section.specs.declared.kind.Kind.the-variants.{Head, Curvature, Rows, Costs, Bounds, Limits, Slip}
+use Rattle.section.specs.Kinds.{letterOf}
+use Rattle.section.specs.Layout.{blocksFor, countOf, firstOf, blocksIn}
 use Rattle.card.specs.Cards.{laid, sectionOf, headOf, cardOf}
 
 pub length-laid : (letter k : ℕ) (nums : List ℤ) (b : ℕ) → length (laid letter k nums b) ≡ b * 512

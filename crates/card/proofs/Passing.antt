@@ -21,14 +21,15 @@ use Rattle.block.specs.Blocks.{checkOf, blockAt, blockOf, numbersOf, Fit}
 use Rattle.block.specs.Checks.{Verdict, andThen, firstSet, noSpare, sumCheck, nameCheck, spareCheck, blockCheck}
 use Rattle.block.proofs.Laying.{length-block, length-part}
 use Rattle.block.proofs.RoundTrip.{passes, block-passed, block-read}
-use Rattle.card.specs.declared.kind.Kind.{Kind}
-use Rattle.card.specs.declared.kind.Kind.the-variants.{Head, Curvature, Rows, Costs, Bounds, Limits, Slip}
-use Rattle.card.specs.Kinds.{letterOf}
-use Rattle.card.specs.Layout.{InRange, blocksFor, countOf, firstOf, blocksIn}
+use Rattle.section.specs.declared.kind.Kind.{Kind}
+use Rattle.section.specs.declared.kind.Kind.the-variants.{Head, Curvature, Rows, Costs, Bounds, Limits, Slip}
+use Rattle.section.specs.Kinds.{letterOf}
+use Rattle.section.specs.Layout.{InRange, blocksFor, countOf, firstOf, blocksIn}
 use Rattle.card.specs.Faults.{nOf, mOf, inSize, sizeCheck, headCheck, lengthCheck, fullCheck, runCheck, sectionCheck, sectionsCheck, cardCheck}
-use Rattle.card.specs.Cards.{laid, sectionOf, headOf, cardOf, numbersFrom, numbersIn}
+use Rattle.card.specs.Cards.{laid, sectionOf, headOf, cardOf}
+use Rattle.section.specs.Numbers.{numbersFrom, numbersIn}
 use Rattle.card.specs.Laws.{Proper, Reads}
-use Rattle.card.proofs.Spots.{num-of}
+use Rattle.section.proofs.Spots.{num-of}
 use Rattle.card.proofs.Laying.{length-laid}
 
 fit-take : (nums : List ℤ) → Fit nums → Fit (take 126 nums)

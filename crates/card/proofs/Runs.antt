@@ -7,7 +7,7 @@ use Rattle.std.specs.declared.result.Result.the-variants.{Ok, Err}
 use Rattle.block.specs.declared.fault.Fault.{Fault}
 use Rattle.block.specs.Blocks.{blockAt}
 use Rattle.block.specs.Checks.{Verdict, andThen, blockCheck}
-use Rattle.card.specs.Layout.{blocksFor}
+use Rattle.section.specs.Layout.{blocksFor}
 use Rattle.card.specs.Faults.{runCheck}
 
 blocks-more : (left : ℕ) → 0 < left → blocksFor left ≡ suc (blocksFor (left - 126))

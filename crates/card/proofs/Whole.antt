@@ -17,13 +17,14 @@ use Rattle.block.specs.Bytes.{num}
 use Rattle.block.specs.Blocks.{blockAt, blockOf, numbersOf}
 use Rattle.block.specs.Checks.{Verdict, andThen, blockCheck, sumCheck, nameCheck, spareCheck}
 use Rattle.block.proofs.RoundTrip.{then-ok, cond-ok, passed, block-back, length-numbers}
-use Rattle.card.specs.declared.kind.Kind.{Kind}
-use Rattle.card.specs.declared.kind.Kind.the-variants.{Head, Curvature, Rows, Costs, Bounds, Limits, Slip}
-use Rattle.card.specs.Kinds.{letterOf}
-use Rattle.card.specs.Layout.{blocksFor, countOf, firstOf, blocksIn}
+use Rattle.section.specs.declared.kind.Kind.{Kind}
+use Rattle.section.specs.declared.kind.Kind.the-variants.{Head, Curvature, Rows, Costs, Bounds, Limits, Slip}
+use Rattle.section.specs.Kinds.{letterOf}
+use Rattle.section.specs.Layout.{blocksFor, countOf, firstOf, blocksIn}
 use Rattle.card.specs.Faults.{nOf, mOf, inSize, sizeCheck, headCheck, lengthCheck, fullCheck, runCheck, sectionCheck, sectionsCheck, cardCheck}
-use Rattle.card.specs.Cards.{laid, sectionOf, headOf, cardOf, numbersFrom, numbersIn}
-use Rattle.card.proofs.Spots.{num-of}
+use Rattle.card.specs.Cards.{laid, sectionOf, headOf, cardOf}
+use Rattle.section.specs.Numbers.{numbersFrom, numbersIn}
+use Rattle.section.proofs.Spots.{num-of}
 
 -- a list from p on: q elements, and the list from p + q on
 split-at : (xs : List ℕ) (p q r : ℕ) → p + q ≡ r → drop p xs ≡ take q (drop p xs) ++ drop r xs

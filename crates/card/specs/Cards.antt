@@ -1,14 +1,14 @@
 -- A card as it is made of sizes and numbers, and the numbers of a card.
-use Prim.Native.Nat.{ℕ, zero, suc, _+_, _-_, min}
+use Prim.Native.Nat.{ℕ, zero, suc, _+_}
 use mathlib.Core.List.{List, [], _∷_, _++_}
 use lib.ListN.{take, drop}
 use lib.IntN.{ℤ, pos}
-use Rattle.block.specs.Blocks.{blockAt, blockOf, numbersOf}
-use Rattle.card.specs.declared.kind.Kind.{Kind}
-use Rattle.card.specs.declared.kind.Kind.the-variants.{Head, Curvature, Rows, Costs, Bounds, Limits, Slip}
-use Rattle.card.specs.declared.sizes.Sizes.{Sizes}
-use Rattle.card.specs.Kinds.{letterOf}
-use Rattle.card.specs.Layout.{blocksFor, countOf, firstOf, startOf, numbersFor}
+use Rattle.block.specs.Blocks.{blockOf}
+use Rattle.section.specs.declared.kind.Kind.{Kind}
+use Rattle.section.specs.declared.kind.Kind.the-variants.{Head, Curvature, Rows, Costs, Bounds, Limits, Slip}
+use Rattle.section.specs.declared.sizes.Sizes.{Sizes}
+use Rattle.section.specs.Kinds.{letterOf}
+use Rattle.section.specs.Layout.{blocksFor, countOf, firstOf, startOf, numbersFor}
 
 -- b blocks under one letter from block k on: 126 numbers to a block
 abbrev pub laid : ℕ → ℕ → List ℤ → ℕ → List ℕ
@@ -31,12 +31,3 @@ unfoldable pub cardOf : ℕ → ℕ → (Kind → List ℤ) → List ℕ
 cardOf n m nums =
     headOf n m ++ (sectionOf n m nums Curvature ++ (sectionOf n m nums Rows ++ (sectionOf n m nums Costs
     ++ (sectionOf n m nums Bounds ++ (sectionOf n m nums Limits ++ sectionOf n m nums Slip)))))
-
--- the `count` numbers in b blocks from block k on
-abbrev pub numbersFrom : List ℕ → ℕ → ℕ → ℕ → List ℤ
-numbersFrom card k count zero = []
-numbersFrom card k count (suc b) = numbersOf (blockAt card k) (min count 126) ++ numbersFrom card (k + 1) (count - 126) b
-
--- the numbers of a section
-unfoldable pub numbersIn : List ℕ → ℕ → ℕ → Kind → List ℤ
-numbersIn card n m kind = numbersFrom card (firstOf kind n m) (countOf kind n m) (blocksFor (countOf kind n m))

@@ -13,11 +13,11 @@ use Rattle.std.specs.declared.result.Result.{Result}
 use Rattle.std.specs.declared.result.Result.the-variants.{Ok, Err}
 use Rattle.block.specs.declared.fault.Fault.{Fault}
 use Rattle.block.specs.declared.fault.Fault.the-variants.{Short}
-use Rattle.card.specs.declared.kind.Kind.{Kind}
-use Rattle.card.specs.declared.kind.Kind.the-variants.{Head, Curvature, Rows, Costs, Bounds, Limits, Slip}
-use Rattle.card.specs.declared.sizes.Sizes.{Sizes}
+use Rattle.section.specs.declared.kind.Kind.{Kind}
+use Rattle.section.specs.declared.kind.Kind.the-variants.{Head, Curvature, Rows, Costs, Bounds, Limits, Slip}
+use Rattle.section.specs.declared.sizes.Sizes.{Sizes}
 use Rattle.card.specs.declared.contents.Contents.{Contents}
-use Rattle.card.specs.Layout.{numbersFor, bytesFor}
+use Rattle.section.specs.Layout.{numbersFor, bytesFor}
 use Rattle.card.specs.Cards.{cardOf}
 
 -- the numbers of each section: the head has the sizes

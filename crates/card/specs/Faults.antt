@@ -13,10 +13,10 @@ use Rattle.block.specs.declared.fault.Fault.the-variants.{Length, Sizes}
 use Rattle.block.specs.Bytes.{num}
 use Rattle.block.specs.Blocks.{blockAt}
 use Rattle.block.specs.Checks.{Verdict, andThen, sumCheck, nameCheck, spareCheck, blockCheck}
-use Rattle.card.specs.declared.kind.Kind.{Kind}
-use Rattle.card.specs.declared.kind.Kind.the-variants.{Head, Curvature, Rows, Costs, Bounds, Limits, Slip}
-use Rattle.card.specs.Kinds.{letterOf}
-use Rattle.card.specs.Layout.{blocksFor, countOf, firstOf, blocksIn}
+use Rattle.section.specs.declared.kind.Kind.{Kind}
+use Rattle.section.specs.declared.kind.Kind.the-variants.{Head, Curvature, Rows, Costs, Bounds, Limits, Slip}
+use Rattle.section.specs.Kinds.{letterOf}
+use Rattle.section.specs.Layout.{blocksFor, countOf, firstOf, blocksIn}
 
 -- the sizes that the head's two numbers give
 abbrev pub nOf : List ℕ → ℕ

@@ -1,20 +1,18 @@
 -- What the check of a card and its writer mean to each other.
-use Prim.Native.Nat.{ℕ, _*_, _<_}
+use Prim.Native.Nat.{ℕ}
 use mathlib.Core.Path.{_≡_}
 use mathlib.Core.List.{List, [], _∷_}
-use lib.ListN.{length, getD}
+use lib.ListN.{length}
 use lib.IntN.{ℤ, pos}
-use Rattle.std.specs.declared.option.Option.{Option}
-use Rattle.std.specs.declared.option.Option.the-variants.{Some, None}
 use Rattle.std.specs.declared.result.Result.the-variants.{Ok}
 use Rattle.block.specs.Blocks.{Fit}
 use Rattle.block.specs.Checks.{Verdict}
-use Rattle.card.specs.declared.kind.Kind.{Kind}
-use Rattle.card.specs.declared.kind.Kind.the-variants.{Head}
-use Rattle.card.specs.Layout.{InRange, countOf, firstOf, blocksIn}
+use Rattle.section.specs.declared.kind.Kind.{Kind}
+use Rattle.section.specs.declared.kind.Kind.the-variants.{Head}
+use Rattle.section.specs.Layout.{InRange, countOf}
 use Rattle.card.specs.Faults.{nOf, mOf}
-use Rattle.card.specs.Sections.{Part, valueAt}
-use Rattle.card.specs.Cards.{cardOf, numbersIn}
+use Rattle.section.specs.Numbers.{numbersIn}
+use Rattle.card.specs.Cards.{cardOf}
 
 -- numbers for the sections, as many as the sizes ask for, each of which fits four bytes; the head has the sizes
 pub record Proper (n m : ℕ) (nums : Kind → List ℤ) : Type 0 where
@@ -33,10 +31,3 @@ pub record Reads (card : List ℕ) (n m : ℕ) (nums : Kind → List ℤ) : Type
   pub ropes : nOf card ≡ n
   pub rows : mOf card ≡ m
   pub section : (kind : Kind) → numbersIn card n m kind ≡ nums kind
-
--- on a card of full length, the section that is found at its own first block has the section's numbers
-abbrev pub Located : List ℕ → ℕ → ℕ → ℕ → Option Part → Type 0
-Located card first n m None = Unit {0}
-Located card first n m (Some s) =
-    length card ≡ blocksIn n m * 512 → first ≡ firstOf (s .kind) n m
-    → (q : ℕ) → q < countOf (s .kind) n m → valueAt (s .bytes) q ≡ Some (getD (numbersIn card n m (s .kind)) q (pos 0))

@@ -3,14 +3,14 @@ ghost use Prim.Native.Nat.{_+_, _*_, _≤_};
 ghost use lib.ListN.{length};
 ghost use Rattle.std.specs.Vec.{made};
 ghost use Rattle.block.specs.Blocks.{blockAt};
-ghost use Rattle.card.specs.Layout.{blocksFor, countOf, firstOf, blocksIn};
+ghost use Rattle.section.specs.Layout.{blocksFor, countOf, firstOf, blocksIn};
 ghost use Rattle.card.specs.Faults.{nOf, mOf, lengthCheck, sizeCheck, headCheck, fullCheck, runCheck, sectionCheck, sectionsCheck, cardCheck, verdict};
 ghost use Rattle.card.specs.Laws.{Exact};
-use crate::kind::Kind;
-use crate::sizes::Sizes;
 use block::Block;
 use block::Fault;
 use block::number_at;
+use section::Kind;
+use section::Sizes;
 
 /// Block `number` of a card that has it.
 fn block_at(card: &[u8], number: u16) -> Block
@@ -44,7 +44,7 @@ fn sizes_in(card: &[u8]) -> Result<Sizes, Fault>
     let n = number_at(card, 4).unwrap_or(0);
     let m = number_at(card, 8).unwrap_or(0);
     if 1 <= n && n <= 16 && 0 <= m && m <= 32 {
-        Ok(Sizes { ropes: n.unsigned_abs() as u16, rows: m.unsigned_abs() as u16 })
+        Sizes::new(n.unsigned_abs() as u16, m.unsigned_abs() as u16).ok_or(Fault::Sizes { block: 0 })
     } else {
         Err(Fault::Sizes { block: 0 })
     }

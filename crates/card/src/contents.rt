@@ -1,7 +1,7 @@
 ghost use mathlib.Core.Path.{_≡_};
 ghost use Prim.Native.Nat.{_*_};
 ghost use Rattle.std.specs.Of.Vec.{vec-len};
-use crate::sizes::Sizes;
+use section::Sizes;
 
 /// The sizes of a job and the numbers of each section of its card, as many as the sizes ask for.
 #[derive(Drop)]

@@ -7,16 +7,16 @@ ghost use Rattle.std.specs.Of.Vec.{vec-items};
 ghost use Rattle.std.specs.Vec.{made};
 ghost use Rattle.std.specs.declared.result.Result.the-variants.{Ok};
 ghost use Rattle.block.specs.Blocks.{Fit};
-ghost use Rattle.card.specs.Layout.{blocksFor, startOf, numbersFor, bytesFor};
+ghost use Rattle.section.specs.Layout.{blocksFor, startOf, numbersFor, bytesFor};
 ghost use Rattle.card.specs.Faults.{cardCheck};
 ghost use Rattle.card.specs.Cards.{laid, sectionLaid};
 ghost use Rattle.card.specs.Contents.{sections, numbers, Counted, Tells, Built, written, bytesNeeded, writeAnswer, writeAfter};
 ghost use Rattle.card.specs.Laws.{Proper, Reads};
 use crate::contents::Contents;
-use crate::kind::Kind;
-use crate::sizes::Sizes;
 use block::Block;
 use block::Fault;
+use section::Kind;
+use section::Sizes;
 
 /// Writes the blocks that hold the numbers under one letter, from block `first` on.
 fn write_run(out: &mut [u8], letter: u8, first: u16, numbers: &[i32])
@@ -49,7 +49,7 @@ fn write_all(out: &mut [u8], x: &Contents)
     ensures value { λ _. ⌜ now (out .exit) ≡ written (now (x .entry)) ⌝ }
     ensures proper { λ _. ⌜ Proper (now (x .entry) .sizes .ropes) (now (x .entry) .sizes .rows) (numbers (now (x .entry))) ⌝ }
 {
-    let head = [x.sizes.ropes as i32, x.sizes.rows as i32];
+    let head = [x.sizes.ropes() as i32, x.sizes.rows() as i32];
     write_section(out, Kind::Head, &x.sizes, &head);
     write_section(out, Kind::Curvature, &x.sizes, x.curvature.as_slice());
     write_section(out, Kind::Rows, &x.sizes, x.rows.as_slice());

@@ -1,6 +1,6 @@
 use Prim.Native.Nat.{_≤_, _+_}
 use mathlib.Core.Path.{_≡_}
-use Rattle.card.specs.Layout.{blocksFor}
+use Rattle.section.specs.Layout.{blocksFor}
 use Rattle.card.specs.Faults.{runCheck}
 use Rattle.card.proofs.checks.check_run.Given as given
 

@@ -1,6 +1,6 @@
 use mathlib.Core.Path.{_≡_, ap, _∙_}
-use Rattle.card.specs.Kinds.{letterOf}
-use Rattle.card.specs.Layout.{blocksFor, firstOf, countOf}
+use Rattle.section.specs.Kinds.{letterOf}
+use Rattle.section.specs.Layout.{blocksFor, firstOf, countOf}
 use Rattle.card.specs.Faults.{sectionCheck, runCheck}
 use Rattle.card.proofs.checks.check_section.Needs as need
 

@@ -1,8 +1,8 @@
 use mathlib.Core.Path.{refl, sym}
 use Rattle.std.proofs.shelf.Tests.{eqb-true, eqb-false}
-use Rattle.card.specs.declared.kind.Kind.the-variants.{Head, Curvature, Rows, Costs, Bounds, Limits, Slip}
+use Rattle.section.specs.declared.kind.Kind.the-variants.{Head, Curvature, Rows, Costs, Bounds, Limits, Slip}
 use Rattle.card.specs.Contents.{sections}
-use Rattle.card.specs.Layout.{numbersFor}
+use Rattle.section.specs.Layout.{numbersFor}
 use Rattle.card.proofs.writes.all_counted.Needs as need
 use mathlib.Core.Path.{_≡_}
 use lib.ListN.{length}

@@ -1,5 +1,5 @@
 use mathlib.Core.Path.{_≡_, sym, _∙_}
-use Rattle.card.specs.declared.kind.Kind.the-variants.{Curvature, Rows, Costs, Bounds, Limits, Slip}
+use Rattle.section.specs.declared.kind.Kind.the-variants.{Curvature, Rows, Costs, Bounds, Limits, Slip}
 use Rattle.card.proofs.contents.Contents.new.Needs as need
 
 pub ghost-result : need.ghost-result
