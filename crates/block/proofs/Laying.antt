@@ -22,8 +22,8 @@ filled-at nums j le h =
     ⊎-elim
     (λ less. getD-append-left nums (replicate (126 - length nums) (pos 0)) (pos 0) j less)
     (λ more.
-        getD-append-right nums (replicate (126 - length nums) (pos 0)) (length nums) j (pos 0) refl more
-        ∙ (getD-replicate (126 - length nums) (j - length nums) (pos 0) (pos 0) (omega arith) ∙ sym (getD-past nums j (pos 0) more)))
+    getD-append-right nums (replicate (126 - length nums) (pos 0)) (length nums) j (pos 0) refl more
+    ∙ (getD-replicate (126 - length nums) (j - length nums) (pos 0) (pos 0) (omega arith) ∙ sym (getD-past nums j (pos 0) more)))
     (cases-lt j (length nums))
 
 pub length-joined4 : (zs : List ℤ) → length (joined bytes4 zs) ≡ length zs * 4
@@ -59,7 +59,7 @@ module _ (d : List ℕ) (letter number : ℕ) (nums : List ℤ) (ld : length d �
       let first : paste (paste d 0 (letter ∷ 0 ∷ []) 2) 2 (bytes2 number) 2 ≡ paste d 0 (letter ∷ 0 ∷ bytes2 number) 4 = paste-paste d 0 (letter ∷ 0 ∷ []) (bytes2 number) 2 2 refl refl (omega arith) in
       let long : 504 ≡ length (joined bytes4 (filled nums)) = omega (arith, length-joined4 (filled nums), length-filled nums le) in
       let second : paste (paste d 0 (letter ∷ 0 ∷ bytes2 number) 4) 4 (joined bytes4 (filled nums)) 504 ≡ paste d 0 (letter ∷ 0 ∷ bytes2 number ++ joined bytes4 (filled nums)) 508
-            = paste-paste d 0 (letter ∷ 0 ∷ bytes2 number) (joined bytes4 (filled nums)) 4 504 refl long (omega arith) in
+      = paste-paste d 0 (letter ∷ 0 ∷ bytes2 number) (joined bytes4 (filled nums)) 4 504 refl long (omega arith) in
       let third = paste-paste d 0 (letter ∷ 0 ∷ bytes2 number ++ joined bytes4 (filled nums)) (0 ∷ 0 ∷ []) 508 2 (omega (arith, long)) refl (omega arith) in
       ap (λ o. paste (paste o 4 (joined bytes4 (filled nums)) 504) 508 (0 ∷ 0 ∷ []) 2) first
       ∙ (ap (λ o. paste o 508 (0 ∷ 0 ∷ []) 2) second ∙ third)

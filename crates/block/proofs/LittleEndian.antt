@@ -56,7 +56,7 @@ digits-back n h =
     let last : n / 16777216 % 256 ≡ n / 16777216 = omega arith in
     ap (λ t. n % 256 + n / 256 % 256 * 256 + n / 65536 % 256 * 65536 + t * 16777216) last
     ∙ joined-up n (n / 256) (n / 65536) (n / 16777216) (n % 256) (n / 256 % 256) (n / 65536 % 256)
-      (sym (div-add-mod' n 256)) (sym (ap (λ t. t * 256 + n / 256 % 256) p ∙ div-add-mod' (n / 256) 256)) (sym (ap (λ t. t * 256 + n / 65536 % 256) q ∙ div-add-mod' (n / 65536) 256))
+    (sym (div-add-mod' n 256)) (sym (ap (λ t. t * 256 + n / 256 % 256) p ∙ div-add-mod' (n / 256) 256)) (sym (ap (λ t. t * 256 + n / 65536 % 256) q ∙ div-add-mod' (n / 65536) 256))
 
 -- the number that the four bytes of a number write is that number
 pub num-back : (z : ℤ) → SFits w32 z → toZ w32 (ofZ w32 z % 256 + ofZ w32 z / 256 % 256 * 256 + ofZ w32 z / 65536 % 256 * 65536 + ofZ w32 z / 16777216 % 256 * 16777216) ≡ z

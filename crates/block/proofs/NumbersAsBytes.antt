@@ -35,11 +35,11 @@ numbers-bytes bs small zero j h = refl
 numbers-bytes bs small (suc n) j h =
     let p : ℕ = 4 + j * 4 in
     let here : bytes4 (num bs p) ≡ getD bs p 0 ∷ getD bs (p + 1) 0 ∷ getD bs (p + 2) 0 ∷ getD bs (p + 3) 0 ∷ []
-          = four-back (getD bs p 0) (getD bs (p + 1) 0) (getD bs (p + 2) 0) (getD bs (p + 3) 0) (small p) (small (p + 1)) (small (p + 2)) (small (p + 3)) in
+    = four-back (getD bs p 0) (getD bs (p + 1) 0) (getD bs (p + 2) 0) (getD bs (p + 3) 0) (small p) (small (p + 1)) (small (p + 2)) (small (p + 3)) in
     let next : 4 + (j + 1) * 4 ≡ p + 4 = omega arith in
     let more : suc n * 4 ≡ suc (suc (suc (suc (n * 4)))) = omega arith in
     let rest : joined bytes4 (map (λ i. num bs (4 + i * 4)) (counting (j + 1) n)) ≡ take (n * 4) (drop (p + 4) bs)
-          = numbers-bytes bs small n (j + 1) (omega arith) ∙ ap (λ q. take (n * 4) (drop q bs)) next in
+    = numbers-bytes bs small n (j + 1) (omega arith) ∙ ap (λ q. take (n * 4) (drop q bs)) next in
     ap (λ t. bytes4 (num bs p) ++ t) rest
     ∙ (ap (λ t. t ++ take (n * 4) (drop (p + 4) bs)) here
     ∙ sym (ap (λ m. take m (drop p bs)) more ∙ ap (take (suc (suc (suc (suc (n * 4)))))) (drop-four bs p (omega arith))))
@@ -84,5 +84,5 @@ read-back (z ∷ zs) fits front rest j h =
     let again : xs ≡ (front ++ bytes4 z) ++ tail = sym (append-assoc front (bytes4 z) tail) in
     let longer : length (front ++ bytes4 z) ≡ 4 + (j + 1) * 4 = omega (arith, length-append front (bytes4 z)) in
     let more : map (λ i. num xs (4 + i * 4)) (counting (j + 1) (length zs)) ≡ zs
-          = ap (λ l. map (λ i. num l (4 + i * 4)) (counting (j + 1) (length zs))) again ∙ read-back zs (λ k l. fits (suc k) (omega arith)) (front ++ bytes4 z) rest (j + 1) longer in
+    = ap (λ l. map (λ i. num l (4 + i * 4)) (counting (j + 1) (length zs))) again ∙ read-back zs (λ k l. fits (suc k) (omega arith)) (front ++ bytes4 z) rest (j + 1) longer in
     cc

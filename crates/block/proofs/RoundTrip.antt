@@ -56,12 +56,13 @@ module _ (block : List ℕ) (letter number used : ℕ) where
       let name = cond-ok (eqb (getD block 0 0) letter) (cond (eqb (le16 block 2) number) (Ok tt) (Err (Fault.Name number))) (Fault.Name number) (n .0) in
       let place = cond-ok (eqb (le16 block 2) number) (Ok tt) (Fault.Name number) (name .1) in
       let spare = cond-none (eqb (getD block 1 0) 0) (firstSet (4 + used * 4) (drop (4 + used * 4) (take 510 block))) 1 (spare-ok number (spareIn block used) (n .1)) in
-      record
-        { sum-is = eqb-true (le16 block 510) (checkOf block) (sum .0)
-        ; letter-is = eqb-true (getD block 0 0) letter (name .0)
-        ; number-is = eqb-true (le16 block 2) number (place .0)
-        ; second-is = eqb-true (getD block 1 0) 0 (spare .0)
-        ; rest-is = spare .1 }
+      record {
+        sum-is = eqb-true (le16 block 510) (checkOf block) (sum .0);
+        letter-is = eqb-true (getD block 0 0) letter (name .0);
+        number-is = eqb-true (le16 block 2) number (place .0);
+        second-is = eqb-true (getD block 1 0) 0 (spare .0);
+        rest-is = spare .1;
+      }
 
   pub passes : Passed block letter number used → blockCheck block letter number used ≡ Ok tt
   passes p =
@@ -114,7 +115,7 @@ module _ (block : List ℕ) (small : (k : ℕ) → getD block k 0 < 256) (long :
       let spare : joined bytes4 (filled nums) ≡ X ++ replicate ((126 - length nums) * 4) 0 = joined4-append nums (replicate (126 - length nums) (pos 0)) ∙ ap (λ r. X ++ r) (zero-numbers (126 - length nums)) in
       let zeros : replicate ((126 - length nums) * 4) 0 ++ (0 ∷ 0 ∷ []) ≡ replicate (506 - used * 4) 0 = replicate-append-replicate ((126 - length nums) * 4) 2 0 ∙ ap (λ m. replicate m 0) (omega (arith, count)) in
       let tail : joined bytes4 (filled nums) ++ (0 ∷ 0 ∷ []) ≡ X ++ replicate (506 - used * 4) 0
-            = ap (λ r. r ++ (0 ∷ 0 ∷ [])) spare ∙ (append-assoc X (replicate ((126 - length nums) * 4) 0) (0 ∷ 0 ∷ []) ∙ ap (λ r. X ++ r) zeros) in
+      = ap (λ r. r ++ (0 ∷ 0 ∷ [])) spare ∙ (append-assoc X (replicate ((126 - length nums) * 4) 0) (0 ∷ 0 ∷ []) ∙ ap (λ r. X ++ r) zeros) in
       sym (take-append-drop (4 + used * 4) (take 510 block))
       ∙ (ap (λ f. f ++ drop (4 + used * 4) (take 510 block)) (take-take (4 + used * 4) 510 block (omega arith) ∙ front-is)
       ∙ (ap (λ b. (letter ∷ 0 ∷ (bytes2 number ++ X)) ++ b) back-is
@@ -161,13 +162,14 @@ module _ (letter number : ℕ) (nums : List ℤ) (hn : number < 65536) (le : len
       let sum : getD (body ++ bytes2 s) 510 0 + getD (body ++ bytes2 s) 511 0 * 256 ≡ s = ap (λ n. n + getD (body ++ bytes2 s) 511 0 * 256) g0 ∙ (ap (λ n. s % 256 + n * 256) g1 ∙ two-back s (omega arith)) in
       let F : List ℕ = letter ∷ 0 ∷ (bytes2 number ++ joined bytes4 nums) in
       let count : length F ≡ 4 + length nums * 4 = omega (arith, length-joined4 nums) in
-      record
-        { sum-is = sum ∙ sym (ap (λ b. weighed 0 b % 65521) take-block)
-        ; letter-is = refl
-        ; number-is = two-back number hn
-        ; second-is = refl
-        ; rest-is = ap (λ b. firstSet (4 + length nums * 4) (drop (4 + length nums * 4) b)) (take-block ∙ body-splits)
-            ∙ (ap (firstSet (4 + length nums * 4)) (drop-at F (replicate (506 - length nums * 4) 0) (4 + length nums * 4) count) ∙ zeros-none (4 + length nums * 4) (506 - length nums * 4)) }
+      record {
+        sum-is = sum ∙ sym (ap (λ b. weighed 0 b % 65521) take-block);
+        letter-is = refl;
+        number-is = two-back number hn;
+        second-is = refl;
+        rest-is = ap (λ b. firstSet (4 + length nums * 4) (drop (4 + length nums * 4) b)) (take-block ∙ body-splits)
+            ∙ (ap (firstSet (4 + length nums * 4)) (drop-at F (replicate (506 - length nums * 4) 0) (4 + length nums * 4) count) ∙ zeros-none (4 + length nums * 4) (506 - length nums * 4));
+      }
 
   pub block-read : ((k : ℕ) → k < length nums → SFits w32 (getD nums k (pos 0))) → numbersOf (blockOf letter number nums) (length nums) ≡ nums
   unfolding numbersOf blockOf bodyOf
@@ -177,7 +179,7 @@ module _ (letter number : ℕ) (nums : List ℤ) (hn : number < 65536) (le : len
       let Z : List ℕ = joined bytes4 (replicate (126 - length nums) (pos 0)) in
       let H : List ℕ = letter ∷ 0 ∷ bytes2 number in
       let e : joined bytes4 (filled nums) ++ (0 ∷ 0 ∷ []) ++ S ≡ joined bytes4 nums ++ (Z ++ (0 ∷ 0 ∷ []) ++ S)
-            = ap (λ r. r ++ (0 ∷ 0 ∷ []) ++ S) (joined4-append nums (replicate (126 - length nums) (pos 0))) ∙ simp append-assoc in
+      = ap (λ r. r ++ (0 ∷ 0 ∷ []) ++ S) (joined4-append nums (replicate (126 - length nums) (pos 0))) ∙ simp append-assoc in
       ap (λ b. map (λ i. num b (4 + i * 4)) (counting 0 (length nums))) (ap (λ t. H ++ t) e)
       ∙ read-back nums fits H (Z ++ (0 ∷ 0 ∷ []) ++ S) 0 refl
 
@@ -185,12 +187,13 @@ module _ (letter number : ℕ) (nums : List ℤ) (hn : number < 65536) (le : len
 pub exact : (block : List ℕ) → ((k : ℕ) → getD block k 0 < 256) → length block ≡ 512 → (letter number used : ℕ) → number < 65536
     → Exact block letter number used (blockCheck block letter number used)
 exact block small long letter number used hn =
-    record
-      { made = λ le e. block-back block small long letter number used le (passed block letter number used e)
-      ; passes = λ le e.
+    record {
+      made = λ le e. block-back block small long letter number used le (passed block letter number used e);
+      passes = λ le e.
           let nums : List ℤ = numbersOf block used in
           let count : length nums ≡ used = length-numbers block used in
           let short : length nums ≤ 126 = omega arith in
           ap (λ b. blockCheck b letter number used) e
           ∙ (ap (blockCheck (blockOf letter number nums) letter number) (sym count)
-          ∙ passes (blockOf letter number nums) letter number (length nums) (block-passed letter number nums hn short)) }
+          ∙ passes (blockOf letter number nums) letter number (length nums) (block-passed letter number nums hn short));
+    }

@@ -44,23 +44,27 @@ some-is k j (x ∷ xs) e = by-test (eqb x 0) refl e (some-is (k + 1) j xs) where
       let low : k + 1 ≤ j = f .from in
       let high : j < k + 1 + length xs = f .to in
       let at : j - k ≡ suc (j - (k + 1)) = omega arith in
-      record
-        { from = omega arith
-        ; to = omega arith
-        ; set = λ e. f .set (sym (ap (λ n. getD (x ∷ xs) n 0) at) ∙ e)
-        ; clear = λ i l h.
+      record {
+        from = omega arith;
+        to = omega arith;
+        set = λ e. f .set (sym (ap (λ n. getD (x ∷ xs) n 0) at) ∙ e);
+        clear = λ i l h.
             ⊎-elim
             (λ (here : i < k + 1). let same : i - k ≡ 0 = omega arith in ap (λ n. getD (x ∷ xs) n 0) same ∙ zero)
             (λ (later : k + 1 ≤ i). let same : i - k ≡ suc (i - (k + 1)) = omega arith in ap (λ n. getD (x ∷ xs) n 0) same ∙ f .clear i later h)
-            (cases-lt i (k + 1)) }
+            (cases-lt i (k + 1));
+      }
+
   here-first : (x ≡ 0 → ⊥) → k ≡ j → First k j (x ∷ xs)
   here-first ne same =
       let at : j - k ≡ 0 = omega arith in
-      record
-        { from = omega arith
-        ; to = omega arith
-        ; set = λ e. ne (sym (ap (λ n. getD (x ∷ xs) n 0) at) ∙ e)
-        ; clear = λ i l h. absurd (omega arith) }
+      record {
+        from = omega arith;
+        to = omega arith;
+        set = λ e. ne (sym (ap (λ n. getD (x ∷ xs) n 0) at) ∙ e);
+        clear = λ i l h. absurd (omega arith);
+      }
+
   by-test : (t : Bool) → t ≡ eqb x 0 → cond t (firstSet (k + 1) xs) (Some k) ≡ Some j → (firstSet (k + 1) xs ≡ Some j → First (k + 1) j xs) → First k j (x ∷ xs)
   by-test true p q rest = later-first (eqb-true x 0 (sym p)) (rest q)
   by-test false p q rest = here-first (eqb-false x 0 (sym p)) (cc)
@@ -91,7 +95,7 @@ module _ (block : List ℕ) (number used : ℕ) (long : length block ≡ 512) wh
         ⊎-elim
         (λ (one : k ≡ 1). ap (λ n. getD block n 0) one ∙ eqb-true (getD block 1 0) 0 (sym p))
         (λ (within : (4 + used * 4 ≤ k) × (k < 510)).
-            sym (tail-at k (within .0) (within .1)) ∙ none-is from tail q k (within .0) (omega (arith, length-tail, within .0, within .1)))
+        sym (tail-at k (within .0) (within .1)) ∙ none-is from tail q k (within .0) (omega (arith, length-tail, within .0, within .1)))
         spare
     by-test false p q = let z : _≡_ {A = ℕ} 0 1 = cc in absurd (omega arith)
 
@@ -108,20 +112,24 @@ module _ (block : List ℕ) (number used : ℕ) (long : length block ≡ 512) wh
     late zero f =
         let low : from ≤ k = f .from in
         let high : k < 510 = omega (arith, f .to, length-tail) in
-        record
-          { spare = inr (low, high)
-          ; set = λ z. f .set (tail-at k low high ∙ z)
-          ; first = λ i less spare.
+        record {
+          spare = inr (low, high);
+          set = λ z. f .set (tail-at k low high ∙ z);
+          first = λ i less spare.
               ⊎-elim
               (λ (one : i ≡ 1). ap (λ n. getD block n 0) one ∙ zero)
               (λ (within : (4 + used * 4 ≤ i) × (i < 510)). sym (tail-at i (within .0) (within .1)) ∙ f .clear i (within .0) less)
-              spare }
+              spare;
+        }
+
     early : (getD block 1 0 ≡ 0 → ⊥) → 1 ≡ k → Earliest k
     early ne one =
-        record
-          { spare = inl (sym one)
-          ; set = λ z. ne (ap (λ n. getD block n 0) one ∙ z)
-          ; first = λ i less spare. absurd (⊎-elim (λ (same : i ≡ 1). omega arith) (λ (within : (4 + used * 4 ≤ i) × (i < 510)). omega (arith, within .0)) spare) }
+        record {
+          spare = inl (sym one);
+          set = λ z. ne (ap (λ n. getD block n 0) one ∙ z);
+          first = λ i less spare. absurd (⊎-elim (λ (same : i ≡ 1). omega arith) (λ (within : (4 + used * 4 ≤ i) × (i < 510)). omega (arith, within .0)) spare);
+        }
+
     by-test : (t : Bool) → t ≡ eqb (getD block 1 0) 0 → cond t (firstSet from tail) (Some 1) ≡ Some k → Earliest k
     by-test true p q = late (eqb-true (getD block 1 0) 0 (sym p)) (some-is from k tail q)
     by-test false p q = early (eqb-false (getD block 1 0) 0 (sym p)) (cc)
@@ -133,8 +141,9 @@ module _ (block : List ℕ) (number used : ℕ) (long : length block ≡ 512) wh
   pub spare-law : FirstSpare block number used (spareCheck block number used)
   spare-law =
       let at : (k : ℕ) → spareCheck block number used ≡ Err (Fault.Spare number k) → Earliest k = λ k e. spare-earliest k (refused-some (spareIn block used) k e) in
-      record
-        { clean = λ e. spare-clean (spare-ok number (spareIn block used) e)
-        ; spare = λ k e. at k e .spare
-        ; set = λ k e. at k e .set
-        ; first = λ k e. at k e .first }
+      record {
+        clean = λ e. spare-clean (spare-ok number (spareIn block used) e);
+        spare = λ k e. at k e .spare;
+        set = λ k e. at k e .set;
+        first = λ k e. at k e .first;
+      }

@@ -71,7 +71,10 @@ fn judge_spare(block: &[u8], number: u16, used: u8) -> Result<(), Fault>
     ensures { λ r. ⌜ r ≡ spareCheck (now (block .entry)) number used ⌝ }
 {
     match spare_set(block, used) {
-        Some(byte) => Err(Fault::Spare { block: number, byte }),
+        Some(byte) => Err(Fault::Spare {
+            block: number,
+            byte,
+        }),
         None => Ok(()),
     }
 }

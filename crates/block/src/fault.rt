@@ -48,6 +48,11 @@ impl Fault {
             Fault::Spare { block, byte } => (5, block as usize, byte as usize),
             Fault::Short { needed } => (6, needed, 0),
         };
-        Notice { number, layer: Layer::Card, first, second }
+        Notice {
+            number,
+            layer: Layer::Card,
+            first,
+            second,
+        }
     }
 }

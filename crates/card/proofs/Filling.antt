@@ -14,9 +14,9 @@ use Rattle.section.specs.declared.kind.Kind.{Kind}
 use Rattle.section.specs.declared.kind.Kind.the-variants.{Head, Curvature, Rows, Costs, Bounds, Limits, Slip}
 use Rattle.card.specs.declared.contents.Contents.{Contents}
 use Rattle.section.specs.declared.sizes.Sizes.{Sizes}
-use Rattle.section.specs.Layout.{blocksFor, startOf, numbersFor}
+use Rattle.section.specs.Layout.{numbersFor}
 use Rattle.card.specs.Contents.{numbers, Counted}
-use Rattle.card.specs.Cards.{sectionLaid, headOf}
+use Rattle.card.specs.Cards.{sectionInto, headOf}
 
 -- contents have what their sizes ask for
 pub all-counted : (x : Contents) → Counted (x .sizes) (numbers x)
@@ -30,13 +30,13 @@ all-counted x Slip = sym (x .slip .ok .0) ∙ x .slipped
 
 -- writing a section's numbers is writing the numbers that they are
 pub section-as : (s : Sizes) (kind : Kind) (o o′ : List ℕ) (xs ys : List ℤ) → xs ≡ ys
-    → o′ ≡ paste o (startOf s kind * 512) (sectionLaid s kind xs) (blocksFor (numbersFor s kind) * 512)
-    → o′ ≡ paste o (startOf s kind * 512) (sectionLaid s kind ys) (blocksFor (numbersFor s kind) * 512)
-section-as s kind o o′ xs ys e w = w ∙ ap (λ zs. paste o (startOf s kind * 512) (sectionLaid s kind zs) (blocksFor (numbersFor s kind) * 512)) e
+    → o′ ≡ sectionInto s kind o xs
+    → o′ ≡ sectionInto s kind o ys
+section-as s kind o o′ xs ys e w = w ∙ ap (λ zs. sectionInto s kind o zs) e
 
 -- the head as a section is its one block
 pub head-as : (s : Sizes) (o o′ : List ℕ) (xs : List ℤ) → xs ≡ pos (s .ropes) ∷ pos (s .rows) ∷ []
-    → o′ ≡ paste o (startOf s Head * 512) (sectionLaid s Head xs) (blocksFor (numbersFor s Head) * 512) → o′ ≡ paste o 0 (headOf (s .ropes) (s .rows)) 512
+    → o′ ≡ sectionInto s Head o xs → o′ ≡ paste o 0 (headOf (s .ropes) (s .rows)) 512
 head-as s o o′ xs e w =
     section-as s Head o o′ xs (pos (s .ropes) ∷ pos (s .rows) ∷ []) e w ∙ ap (λ b. paste o 0 b 512) (append-nil (headOf (s .ropes) (s .rows)))
 

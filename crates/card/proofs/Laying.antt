@@ -66,13 +66,13 @@ fits-more nums b below here k h l =
     ⊎-elim
     (λ (less : k < b * 126). below k less l)
     (λ (more : b * 126 ≤ k).
-        let i : ℕ = k - b * 126 in
-        let lt : k - b * 126 < 126 = omega arith in
-        let at : b * 126 + (k - b * 126) ≡ k = omega arith in
-        let room : k - b * 126 < length (take 126 (drop (b * 126) nums)) = simp (length-take, length-drop) (omega arith) in
-        let same : getD (take 126 (drop (b * 126) nums)) (k - b * 126) (pos 0) ≡ getD nums k (pos 0)
-              = getD-take 126 (drop (b * 126) nums) (k - b * 126) (pos 0) lt ∙ (getD-drop (b * 126) nums (k - b * 126) (pos 0) ∙ ap (λ j. getD nums j (pos 0)) at) in
-        subst (λ z. SFits w32 z) same (here (k - b * 126) room))
+    let i : ℕ = k - b * 126 in
+    let lt : k - b * 126 < 126 = omega arith in
+    let at : b * 126 + (k - b * 126) ≡ k = omega arith in
+    let room : k - b * 126 < length (take 126 (drop (b * 126) nums)) = simp (length-take, length-drop) (omega arith) in
+    let same : getD (take 126 (drop (b * 126) nums)) (k - b * 126) (pos 0) ≡ getD nums k (pos 0)
+    = getD-take 126 (drop (b * 126) nums) (k - b * 126) (pos 0) lt ∙ (getD-drop (b * 126) nums (k - b * 126) (pos 0) ∙ ap (λ j. getD nums j (pos 0)) at) in
+    subst (λ z. SFits w32 z) same (here (k - b * 126) room))
     (cases-lt k (b * 126))
 
 -- one section more on a card that is written up to there
@@ -84,9 +84,10 @@ section-more d o o′ S p q n m nums kind room e l at e′ sum =
     let T : List ℕ = laid (letterOf kind) (firstOf kind n m) (nums kind) (blocksFor (countOf kind n m)) in
     let t : ℕ = blocksFor (countOf kind n m) * 512 in
     let lt : t ≡ length T = sym (length-laid (letterOf kind) (firstOf kind n m) (nums kind) (blocksFor (countOf kind n m))) in
-    let start : firstOf kind n m * 512 ≡ 0 + p = omega arith in
-    ( e′ ∙ (ap (λ a. paste o a T t) start ∙ (ap (λ x. paste x (0 + p) T t) e ∙ (paste-paste d 0 S T p t l lt (omega arith) ∙ ap (λ a. paste d 0 (S ++ T) a) sum)))
-    , omega (arith, length-append S T, lt))
+    let start : firstOf kind n m * 512 ≡ 0 + p = omega arith in (
+      e′ ∙ (ap (λ a. paste o a T t) start ∙ (ap (λ x. paste x (0 + p) T t) e ∙ (paste-paste d 0 S T p t l lt (omega arith) ∙ ap (λ a. paste d 0 (S ++ T) a) sum))),
+      omega (arith, length-append S T, lt),
+    )
 
 module _ (d : List ℕ) (n m : ℕ) (nums : Kind → List ℤ) (long : length d ≡ blocksIn n m * 512) where
   at : Kind → ℕ
@@ -112,4 +113,3 @@ module _ (d : List ℕ) (n m : ℕ) (nums : Kind → List ℤ) (long : length d 
       let W : List ℕ = B ++ s Curvature ++ s Rows ++ s Costs ++ s Bounds ++ s Limits ++ s Slip in
       let none : drop (blocksIn n m * 512) d ≡ [] = drop-all (blocksIn n m * 512) d (omega arith) in
       l .0 ∙ (paste-all d 0 W (blocksIn n m * 512) (l .1) ∙ (ap (λ t. W ++ t) (ap (λ k. drop k d) (let z : 0 + blocksIn n m * 512 ≡ blocksIn n m * 512 = omega arith in z) ∙ none) ∙ (append-nil W ∙ simp append-assoc)))
-

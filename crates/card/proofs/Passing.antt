@@ -51,9 +51,9 @@ pub run-passes : (card : List ℕ) (letter k : ℕ) (nums : List ℤ) (left b : 
 run-passes card letter k nums left zero rest l e small fit d =
     let none : length nums ≡ 0 = omega arith in
     (refl, sym (empty nums none)) where
-  empty : (xs : List ℤ) → length xs ≡ 0 → xs ≡ []
-  empty [] h = refl
-  empty (x ∷ xs) h = absurd (omega arith)
+      empty : (xs : List ℤ) → length xs ≡ 0 → xs ≡ []
+      empty [] h = refl
+      empty (x ∷ xs) h = absurd (omega arith)
 run-passes card letter k nums left (suc b) rest l e small fit d =
     let P : List ℤ = take 126 nums in
     let B : List ℕ = blockOf letter k P in
@@ -69,11 +69,12 @@ run-passes card letter k nums left (suc b) rest l e small fit d =
     let tail = run-passes card letter (k + 1) (drop 126 nums) (left - 126) b rest ld (omega arith) (omega arith) (fit-drop nums fit) on in
     let hk : k < 65536 = omega arith in
     let okB : blockCheck (blockAt card k) letter k (min left 126) ≡ Ok tt
-          = ap (λ x. blockCheck x letter k (min left 126)) here ∙ (ap (blockCheck B letter k) (sym lp) ∙ passes B letter k (length P) (block-passed letter k P hk short)) in
+    = ap (λ x. blockCheck x letter k (min left 126)) here ∙ (ap (blockCheck B letter k) (sym lp) ∙ passes B letter k (length P) (block-passed letter k P hk short)) in
     let nums-here : numbersOf (blockAt card k) (min left 126) ≡ P
-          = ap (λ x. numbersOf x (min left 126)) here ∙ (ap (numbersOf B) (sym lp) ∙ block-read letter k P hk short (fit-take nums fit)) in
-    ( ap (λ v. andThen v (runCheck card letter (k + 1) (left - 126) b)) okB ∙ tail .0
-    , ap (λ x. x ++ numbersFrom card (k + 1) (left - 126) b) nums-here ∙ (ap (λ y. P ++ y) (tail .1) ∙ take-append-drop 126 nums))
+    = ap (λ x. numbersOf x (min left 126)) here ∙ (ap (numbersOf B) (sym lp) ∙ block-read letter k P hk short (fit-take nums fit)) in (
+      ap (λ v. andThen v (runCheck card letter (k + 1) (left - 126) b)) okB ∙ tail .0,
+      ap (λ x. x ++ numbersFrom card (k + 1) (left - 126) b) nums-here ∙ (ap (λ y. P ++ y) (tail .1) ∙ take-append-drop 126 nums),
+    )
 
 both-ok : (a b : Verdict) → a ≡ Ok tt → b ≡ Ok tt → andThen a b ≡ Ok tt
 both-ok a b e f = ap (λ v. andThen v b) e ∙ f
@@ -151,12 +152,12 @@ module _ (n m : ℕ) (sizes : InRange n m) where
         let B : List ℕ = headOf n m in
         let a : sumCheck B 0 ≡ Ok tt = ap (λ t. cond t (Ok tt) (Err (Fault.CheckSum 0))) (eq-eqb (le16 B 510) (checkOf B) (p .sum-is)) in
         let b : nameCheck B 72 0 ≡ Ok tt
-              = ap (λ t. cond t (cond (eqb (le16 B 2) 0) (Ok tt) (Err (Fault.Name 0))) (Err (Fault.Name 0))) (eq-eqb (getD B 0 0) 72 (p .letter-is))
-              ∙ ap (λ t. cond t (Ok tt) (Err (Fault.Name 0))) (eq-eqb (le16 B 2) 0 (p .number-is)) in
+        = ap (λ t. cond t (cond (eqb (le16 B 2) 0) (Ok tt) (Err (Fault.Name 0))) (Err (Fault.Name 0))) (eq-eqb (getD B 0 0) 72 (p .letter-is))
+        ∙ ap (λ t. cond t (Ok tt) (Err (Fault.Name 0))) (eq-eqb (le16 B 2) 0 (p .number-is)) in
         let c : sizeCheck K ≡ Ok tt = ap (λ z. cond (inSize z (num K 8)) (Ok tt) (Err (Fault.Sizes 0))) card-n
-              ∙ (ap (λ z. cond (inSize (pos n) z) (Ok tt) (Err (Fault.Sizes 0))) card-m ∙ ap (λ t. cond t (Ok tt) (Err (Fault.Sizes 0))) sizes-pass) in
+        ∙ (ap (λ z. cond (inSize (pos n) z) (Ok tt) (Err (Fault.Sizes 0))) card-m ∙ ap (λ t. cond t (Ok tt) (Err (Fault.Sizes 0))) sizes-pass) in
         let d : spareCheck B 0 2 ≡ Ok tt
-              = ap (noSpare 0) (ap (λ t. cond t (firstSet 12 (drop 12 (take 510 B))) (Some 1)) (eq-eqb (getD B 1 0) 0 (p .second-is)) ∙ p .rest-is) in
+        = ap (noSpare 0) (ap (λ t. cond t (firstSet 12 (drop 12 (take 510 B))) (Some 1)) (eq-eqb (getD B 1 0) 0 (p .second-is)) ∙ p .rest-is) in
         ap (λ h. andThen (sumCheck h 0) (andThen (nameCheck h 72 0) (andThen (sizeCheck K) (spareCheck h 0 2)))) hd
         ∙ both-ok (sumCheck B 0) (andThen (nameCheck B 72 0) (andThen (sizeCheck K) (spareCheck B 0 2))) a
         (both-ok (nameCheck B 72 0) (andThen (sizeCheck K) (spareCheck B 0 2)) b (both-ok (sizeCheck K) (spareCheck B 0 2) c d))
@@ -168,20 +169,20 @@ module _ (n m : ℕ) (sizes : InRange n m) where
         let o : Kind → Verdict = λ kind. sectionCheck K kind n m in
         let G : ℕ → ℕ → Verdict = λ x y. andThen (fullCheck (length K) x y) (sectionsCheck K x y) in
         let okS : sectionsCheck K n m ≡ Ok tt
-              = both-ok (o Curvature) (andThen (o Rows) (andThen (o Costs) (andThen (o Bounds) (andThen (o Limits) (o Slip))))) (ok Curvature)
-              (both-ok (o Rows) (andThen (o Costs) (andThen (o Bounds) (andThen (o Limits) (o Slip)))) (ok Rows)
-              (both-ok (o Costs) (andThen (o Bounds) (andThen (o Limits) (o Slip))) (ok Costs)
-              (both-ok (o Bounds) (andThen (o Limits) (o Slip)) (ok Bounds) (both-ok (o Limits) (o Slip) (ok Limits) (ok Slip))))) in
+        = both-ok (o Curvature) (andThen (o Rows) (andThen (o Costs) (andThen (o Bounds) (andThen (o Limits) (o Slip))))) (ok Curvature)
+        (both-ok (o Rows) (andThen (o Costs) (andThen (o Bounds) (andThen (o Limits) (o Slip)))) (ok Rows)
+        (both-ok (o Costs) (andThen (o Bounds) (andThen (o Limits) (o Slip))) (ok Costs)
+        (both-ok (o Bounds) (andThen (o Limits) (o Slip)) (ok Bounds) (both-ok (o Limits) (o Slip) (ok Limits) (ok Slip))))) in
         let okF : fullCheck (length K) n m ≡ Ok tt = ap (λ t. cond t (Ok tt) (Err (Fault.Length (length K)))) (eq-eqb (length K) (blocksIn n m * 512) long) in
         let low : 512 ≤ length K = omega arith in
         let high : length K ≤ 7680 = omega arith in
         let even : length K % 512 ≡ 0 = ap (λ t. t % 512) long ∙ omega arith in
         let okL : lengthCheck (length K) ≡ Ok tt
-              = ap (λ t. cond t (Ok tt) (Err (Fault.Length (length K))))
-              (and-from (leb 512 (length K)) (leb (length K) 7680 && eqb (length K % 512) 0) (le-leb 512 (length K) low)
-              (and-from (leb (length K) 7680) (eqb (length K % 512) 0) (le-leb (length K) 7680 high) (eq-eqb (length K % 512) 0 even))) in
+        = ap (λ t. cond t (Ok tt) (Err (Fault.Length (length K))))
+        (and-from (leb 512 (length K)) (leb (length K) 7680 && eqb (length K % 512) 0) (le-leb 512 (length K) low)
+        (and-from (leb (length K) 7680) (eqb (length K % 512) 0) (le-leb (length K) 7680 high) (eq-eqb (length K % 512) 0 even))) in
         let okG : G (nOf K) (mOf K) ≡ Ok tt
-              = ap (λ x. G (natAbs x) (mOf K)) card-n ∙ (ap (λ x. G n (natAbs x)) card-m ∙ both-ok (fullCheck (length K) n m) (sectionsCheck K n m) okF okS) in
+        = ap (λ x. G (natAbs x) (mOf K)) card-n ∙ (ap (λ x. G n (natAbs x)) card-m ∙ both-ok (fullCheck (length K) n m) (sectionsCheck K n m) okF okS) in
         both-ok (lengthCheck (length K)) (andThen (headCheck K) (G (nOf K) (mOf K))) okL
         (both-ok (headCheck K) (G (nOf K) (mOf K)) head-passes okG)
 
@@ -206,9 +207,22 @@ module _ (n m : ℕ) (sizes : InRange n m) where
     length-card =
         let s : Kind → List ℕ = sectionOf n m nums in
         let ls = length-section n m nums in
-        omega (arith, length-append (headOf n m) (follows Head), length-append (s Curvature) (follows Curvature), length-append (s Rows) (follows Rows)
-          , length-append (s Costs) (follows Costs), length-append (s Bounds) (follows Bounds), length-append (s Limits) (s Slip)
-          , length-block 72 0 (pos n ∷ pos m ∷ []) (omega arith), ls Curvature, ls Rows, ls Costs, ls Bounds, ls Limits, ls Slip)
+        omega (
+          arith,
+          length-append (headOf n m) (follows Head),
+          length-append (s Curvature) (follows Curvature),
+          length-append (s Rows) (follows Rows),
+          length-append (s Costs) (follows Costs),
+          length-append (s Bounds) (follows Bounds),
+          length-append (s Limits) (s Slip),
+          length-block 72 0 (pos n ∷ pos m ∷ []) (omega arith),
+          ls Curvature,
+          ls Rows,
+          ls Costs,
+          ls Bounds,
+          ls Limits,
+          ls Slip,
+        )
 
     -- each section stands at its first block; the head's block is a section of its own
     stands-head : drop (firstOf Head n m * 512) (cardOf n m nums) ≡ sectionOf n m nums Head ++ follows Head
@@ -265,7 +279,8 @@ module _ (n m : ℕ) (sizes : InRange n m) where
 
     pub card-reads : Reads (cardOf n m nums) n m nums
     card-reads =
-        record
-          { ropes = ap natAbs (card-n (cardOf n m nums) begins)
-          ; rows = ap natAbs (card-m (cardOf n m nums) begins)
-          ; section = λ kind. passing kind .1 }
+        record {
+          ropes = ap natAbs (card-n (cardOf n m nums) begins);
+          rows = ap natAbs (card-m (cardOf n m nums) begins);
+          section = λ kind. passing kind .1;
+        }

@@ -57,11 +57,11 @@ module _ (card : List ℕ) (small : (k : ℕ) → getD card k 0 < 256) where
       let count : length X ≡ min left 126 = length-numbers (blockAt card k) (min left 126) in
       ⊎-elim
       (λ less.
-          let b0 : b ≡ 0 = omega arith in
-          let none : Y ≡ [] = ap (numbersFrom card (k + 1) (left - 126)) b0 in
-          let alone : X ++ Y ≡ X = ap (λ y. X ++ y) none ∙ append-nil X in
-          let short : length X ≤ 126 = omega arith in
-          (ap (take 126) alone ∙ take-all 126 X short, ap (drop 126) alone ∙ (drop-all 126 X short ∙ sym none)))
+      let b0 : b ≡ 0 = omega arith in
+      let none : Y ≡ [] = ap (numbersFrom card (k + 1) (left - 126)) b0 in
+      let alone : X ++ Y ≡ X = ap (λ y. X ++ y) none ∙ append-nil X in
+      let short : length X ≤ 126 = omega arith in
+      (ap (take 126) alone ∙ take-all 126 X short, ap (drop 126) alone ∙ (drop-all 126 X short ∙ sym none)))
       (λ more. let full : length X ≡ 126 = omega arith in (take-at X Y 126 full, drop-at X Y 126 full))
       (cases-lt left 126)
 
@@ -72,9 +72,9 @@ module _ (card : List ℕ) (small : (k : ℕ) → getD card k 0 < 256) where
       let parts = then-ok (blockCheck (blockAt card k) letter k (min left 126)) (runCheck card letter (k + 1) (left - 126) b) ok in
       let whole : length (blockAt card k) ≡ 512 = simp (length-take, length-drop) (omega arith) in
       let here : blockAt card k ≡ blockOf letter k (numbersOf (blockAt card k) (min left 126))
-            = block-back (blockAt card k) (small-at (k * 512)) whole letter k (min left 126) (omega arith) (passed (blockAt card k) letter k (min left 126) (parts .0)) in
+      = block-back (blockAt card k) (small-at (k * 512)) whole letter k (min left 126) (omega arith) (passed (blockAt card k) letter k (min left 126) (parts .0)) in
       let rest : take (b * 512) (drop ((k + 1) * 512) card) ≡ laid letter (k + 1) (numbersFrom card (k + 1) (left - 126) b) b
-            = run-laid letter (k + 1) (left - 126) b (omega arith) (omega arith) (parts .1) in
+      = run-laid letter (k + 1) (left - 126) b (omega arith) (omega arith) (parts .1) in
       let X : List ℤ = numbersOf (blockAt card k) (min left 126) in
       let Y : List ℤ = numbersFrom card (k + 1) (left - 126) b in
       let both : (take 126 (X ++ Y) ≡ X) × (drop 126 (X ++ Y) ≡ Y) = cut-run k left b e in
@@ -101,7 +101,7 @@ module _ (card : List ℕ) (small : (k : ℕ) → getD card k 0 < 256) where
 
   pub sections-laid : (n m : ℕ) → length card ≡ blocksIn n m * 512 → sectionsCheck card n m ≡ Ok tt
       → drop 512 card ≡ sectionOf n m (numbersIn card n m) Curvature ++ (sectionOf n m (numbersIn card n m) Rows ++ (sectionOf n m (numbersIn card n m) Costs
-        ++ (sectionOf n m (numbersIn card n m) Bounds ++ (sectionOf n m (numbersIn card n m) Limits ++ sectionOf n m (numbersIn card n m) Slip))))
+      ++ (sectionOf n m (numbersIn card n m) Bounds ++ (sectionOf n m (numbersIn card n m) Limits ++ sectionOf n m (numbersIn card n m) Slip))))
   sections-laid n m long ok =
       let c : Kind → Verdict = λ kind. sectionCheck card kind n m in
       let g = then-ok (c Curvature) (andThen (c Rows) (andThen (c Costs) (andThen (c Bounds) (andThen (c Limits) (c Slip))))) ok in
@@ -111,7 +111,7 @@ module _ (card : List ℕ) (small : (k : ℕ) → getD card k 0 < 256) where
       let r = then-ok (c Limits) (c Slip) (b .1) in
       let none : drop (blocksIn n m * 512) card ≡ [] = drop-all (blocksIn n m * 512) card (omega arith) in
       let fl : drop (firstOf Slip n m * 512) card ≡ sectionOf n m (numbersIn card n m) Slip
-            = after n m Slip (blocksIn n m * 512) [] (omega arith) (r .1) refl none ∙ append-nil (sectionOf n m (numbersIn card n m) Slip) in
+      = after n m Slip (blocksIn n m * 512) [] (omega arith) (r .1) refl none ∙ append-nil (sectionOf n m (numbersIn card n m) Slip) in
       after n m Curvature (firstOf Rows n m * 512) _ (omega arith) (g .0) refl
       (after n m Rows (firstOf Costs n m * 512) _ (omega arith) (a .0) refl
       (after n m Costs (firstOf Bounds n m * 512) _ (omega arith) (o .0) refl

@@ -1,7 +1,8 @@
 -- A card as it is made of sizes and numbers, and the numbers of a card.
-use Prim.Native.Nat.{ℕ, zero, suc, _+_}
+use Prim.Native.Nat.{ℕ, zero, suc, _+_, _*_}
 use mathlib.Core.List.{List, [], _∷_, _++_}
 use lib.ListN.{take, drop}
+use lib.Seq.{paste}
 use lib.IntN.{ℤ, pos}
 use Rattle.block.specs.Blocks.{blockOf}
 use Rattle.section.specs.declared.kind.Kind.{Kind}
@@ -18,9 +19,12 @@ laid letter k nums (suc b) = blockOf letter k (take 126 nums) ++ laid letter (k 
 unfoldable pub sectionOf : ℕ → ℕ → (Kind → List ℤ) → Kind → List ℕ
 sectionOf n m nums kind = laid (letterOf kind) (firstOf kind n m) (nums kind) (blocksFor (countOf kind n m))
 
--- the same for sizes as a value
-abbrev pub sectionLaid : Sizes → Kind → List ℤ → List ℕ
-sectionLaid s kind nums = laid (letterOf kind) (startOf s kind) nums (blocksFor (numbersFor s kind))
+-- a list of bytes with a run of blocks written into it, or a section
+abbrev pub runInto : List ℕ → ℕ → ℕ → List ℤ → ℕ → List ℕ
+runInto out letter k nums b = paste out (k * 512) (laid letter k nums b) (b * 512)
+
+abbrev pub sectionInto : Sizes → Kind → List ℕ → List ℤ → List ℕ
+sectionInto s kind out nums = runInto out (letterOf kind) (startOf s kind) nums (blocksFor (numbersFor s kind))
 
 -- the head block
 abbrev pub headOf : ℕ → ℕ → List ℕ

@@ -44,7 +44,9 @@ fn sizes_in(card: &[u8]) -> Result<Sizes, Fault>
     let n = number_at(card, 4).unwrap_or(0);
     let m = number_at(card, 8).unwrap_or(0);
     if 1 <= n && n <= 16 && 0 <= m && m <= 32 {
-        Sizes::new(n.unsigned_abs() as u16, m.unsigned_abs() as u16).ok_or(Fault::Sizes { block: 0 })
+        Sizes::new(n.unsigned_abs() as u16, m.unsigned_abs() as u16).ok_or(Fault::Sizes {
+            block: 0,
+        })
     } else {
         Err(Fault::Sizes { block: 0 })
     }

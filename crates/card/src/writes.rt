@@ -2,14 +2,13 @@ ghost use mathlib.Core.Path.{_≡_};
 ghost use Prim.Native.Nat.{_+_, _*_, _≤_};
 ghost use lib.Dec.{eqb};
 ghost use lib.ListN.{length};
-ghost use lib.Seq.{paste};
 ghost use Rattle.std.specs.Of.Vec.{vec-items};
 ghost use Rattle.std.specs.Vec.{made};
 ghost use Rattle.std.specs.declared.result.Result.the-variants.{Ok};
 ghost use Rattle.block.specs.Blocks.{Fit};
 ghost use Rattle.section.specs.Layout.{blocksFor, startOf, numbersFor, bytesFor};
 ghost use Rattle.card.specs.Faults.{cardCheck};
-ghost use Rattle.card.specs.Cards.{laid, sectionLaid};
+ghost use Rattle.card.specs.Cards.{runInto, sectionInto};
 ghost use Rattle.card.specs.Contents.{sections, numbers, Counted, Tells, Built, written, bytesNeeded, writeAnswer, writeAfter};
 ghost use Rattle.card.specs.Laws.{Proper, Reads};
 use crate::contents::Contents;
@@ -21,7 +20,7 @@ use section::Sizes;
 /// Writes the blocks that hold the numbers under one letter, from block `first` on.
 fn write_run(out: &mut [u8], letter: u8, first: u16, numbers: &[i32])
     requires { ⌜ (first + blocksFor (length (now numbers))) * 512 ≤ length (now out) ⌝ ∗ ⌜ first ≤ 26 ⌝ ∗ ⌜ length (now numbers) ≤ 512 ⌝ }
-    ensures value { λ _. ⌜ now (out .exit) ≡ paste (now (out .entry)) (first * 512) (laid letter first (now (numbers .entry)) (blocksFor (length (now (numbers .entry))))) (blocksFor (length (now (numbers .entry))) * 512) ⌝ }
+    ensures value { λ _. ⌜ now (out .exit) ≡ runInto (now (out .entry)) letter first (now (numbers .entry)) (blocksFor (length (now (numbers .entry)))) ⌝ }
     ensures fits { λ _. ⌜ Fit (now (numbers .entry)) ⌝ }
 {
     let blocks = (numbers.len() + 125) / 126;
@@ -35,7 +34,7 @@ fn write_run(out: &mut [u8], letter: u8, first: u16, numbers: &[i32])
 /// Writes a section, which has these numbers.
 fn write_section(out: &mut [u8], kind: Kind, sizes: &Sizes, numbers: &[i32])
     requires { ⌜ length (now numbers) ≡ numbersFor (now sizes) kind ⌝ ∗ ⌜ (startOf (now sizes) kind + blocksFor (numbersFor (now sizes) kind)) * 512 ≤ length (now out) ⌝ }
-    ensures value { λ _. ⌜ now (out .exit) ≡ paste (now (out .entry)) (startOf (now (sizes .entry)) kind * 512) (sectionLaid (now (sizes .entry)) kind (now (numbers .entry))) (blocksFor (numbersFor (now (sizes .entry)) kind) * 512) ⌝ }
+    ensures value { λ _. ⌜ now (out .exit) ≡ sectionInto (now (sizes .entry)) kind (now (out .entry)) (now (numbers .entry)) ⌝ }
     ensures fits { λ _. ⌜ Fit (now (numbers .entry)) ⌝ }
 {
     let first = sizes.first(kind);
@@ -67,8 +66,17 @@ fn counted(sizes: &Sizes, kind: Kind, numbers: &[i32]) -> bool
 }
 
 /// Whether every section has as many numbers as the sizes ask for.
-fn all_counted(sizes: &Sizes, curvature: &[i32], rows: &[i32], costs: &[i32], bounds: &[i32], limits: &[i32], slip: &[i32]) -> bool
-    ensures { λ r. ⌜ Tells r (Counted (now (sizes .entry)) (sections (now (sizes .entry)) (now (curvature .entry)) (now (rows .entry)) (now (costs .entry)) (now (bounds .entry)) (now (limits .entry)) (now (slip .entry)))) ⌝ }
+fn all_counted(
+    sizes: &Sizes,
+    curvature: &[i32],
+    rows: &[i32],
+    costs: &[i32],
+    bounds: &[i32],
+    limits: &[i32],
+    slip: &[i32],
+) -> bool
+    ensures { λ r. ⌜ Tells r (Counted (now (sizes .entry)) (sections (now (sizes .entry)) (now (curvature .entry)) (now (rows .entry)) (now (costs .entry))
+        (now (bounds .entry)) (now (limits .entry)) (now (slip .entry)))) ⌝ }
 {
     if !counted(sizes, Kind::Curvature, curvature) {
         return false;
@@ -93,7 +101,15 @@ fn all_counted(sizes: &Sizes, curvature: &[i32], rows: &[i32], costs: &[i32], bo
 
 impl Contents {
     /// The contents of a card, if each section has as many numbers as the sizes ask for.
-    pub fn new(sizes: Sizes, curvature: Vec<i32>, rows: Vec<i32>, costs: Vec<i32>, bounds: Vec<i32>, limits: Vec<i32>, slip: Vec<i32>) -> Option<Contents>
+    pub fn new(
+        sizes: Sizes,
+        curvature: Vec<i32>,
+        rows: Vec<i32>,
+        costs: Vec<i32>,
+        bounds: Vec<i32>,
+        limits: Vec<i32>,
+        slip: Vec<i32>,
+    ) -> Option<Contents>
         ensures { λ r. ⌜ Built r sizes (sections sizes (vec-items curvature) (vec-items rows) (vec-items costs) (vec-items bounds) (vec-items limits) (vec-items slip)) ⌝ }
     {
         let fit = all_counted(
@@ -108,7 +124,15 @@ impl Contents {
         if !fit {
             return None;
         }
-        Some(Contents { sizes, curvature, rows, costs, bounds, limits, slip })
+        Some(Contents {
+            sizes,
+            curvature,
+            rows,
+            costs,
+            bounds,
+            limits,
+            slip,
+        })
     }
 
     /// Writes the card and answers how many bytes it has; the bytes past it stay. Refuses a list that is too short, which stays as it is.

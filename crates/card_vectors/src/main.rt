@@ -40,7 +40,11 @@ impl<'a> Input<'a> {
         let from = self.at.min(self.bytes.len());
         let to = from.saturating_add(len).min(self.bytes.len());
         self.at = to;
-        if from <= to { &self.bytes[from..to] } else { &self.bytes[0..0] }
+        if from <= to {
+            &self.bytes[from..to]
+        } else {
+            &self.bytes[0..0]
+        }
     }
 }
 
@@ -97,7 +101,10 @@ fn report(rt: &LibcRuntime, card: &[u8]) -> io::Result<()> {
 fn run(rt: &LibcRuntime) -> Result<(), AnyError> {
     let mut bytes = Vec::new(rt.alloc());
     rt.stdin().read_to_end(&mut bytes)?;
-    let mut input = Input { bytes: bytes.as_slice(), at: 0 };
+    let mut input = Input {
+        bytes: bytes.as_slice(),
+        at: 0,
+    };
     let cards = base_cards(rt.alloc(), &mut input)?;
     let mut buffer = vec![in rt.alloc(); 0u8; MOST]?;
     for _ in 0..10000 {

@@ -51,21 +51,20 @@ module _ (card : List ℕ) where
       let count : length X ≡ min left 126 = length-numbers (blockAt card k) (min left 126) in
       ⊎-elim
       (λ (less : q < 126).
-          let short : q < length X = omega arith in
-          let small : q < min left 126 = omega arith in
-          let room : 4 + q * 4 + 4 ≤ 512 = omega arith in
-          let spot : k * 512 + (4 + q * 4) ≡ k * 512 + spotOf q = omega arith in
-          getD-append-left X Y (pos 0) q short ∙ (first-at k (min left 126) q small ∙ num-of 512 (k * 512) (4 + q * 4) (k * 512 + spotOf q) room spot))
+      let short : q < length X = omega arith in
+      let small : q < min left 126 = omega arith in
+      let room : 4 + q * 4 + 4 ≤ 512 = omega arith in
+      let spot : k * 512 + (4 + q * 4) ≡ k * 512 + spotOf q = omega arith in
+      getD-append-left X Y (pos 0) q short ∙ (first-at k (min left 126) q small ∙ num-of 512 (k * 512) (4 + q * 4) (k * 512 + spotOf q) room spot))
       (λ (more : 126 ≤ q).
-          let full : length X ≡ 126 = omega arith in
-          let next : (k + 1) * 512 + spotOf (q - 126) ≡ k * 512 + spotOf q = omega arith in
-          getD-append-right X Y 126 q (pos 0) full more ∙ (at-spot (k + 1) (left - 126) b (q - 126) (omega arith) (omega arith) ∙ ap (num card) next))
+      let full : length X ≡ 126 = omega arith in
+      let next : (k + 1) * 512 + spotOf (q - 126) ≡ k * 512 + spotOf q = omega arith in
+      getD-append-right X Y 126 q (pos 0) full more ∙ (at-spot (k + 1) (left - 126) b (q - 126) (omega arith) (omega arith) ∙ ap (num card) next))
       (cases-lt q 126)
 
   section-at : (n m : ℕ) (kind : Kind) (q : ℕ) → q < countOf kind n m → getD (numbersIn card n m kind) q (pos 0) ≡ num card (firstOf kind n m * 512 + spotOf q)
   unfolding numbersIn
   section-at n m kind q h = at-spot (firstOf kind n m) (countOf kind n m) (blocksFor (countOf kind n m)) q refl h
-
 
   -- a section ends within the card
   ends : (n m : ℕ) (kind : Kind) → firstOf kind n m + blocksFor (countOf kind n m) ≤ blocksIn n m

@@ -47,7 +47,11 @@ impl<'a> Section<'a> {
         ensures { λ r. ⌜ mapped partOf r ≡ sectionAt (now (card .entry)) first (now (sizes .entry) .ropes) (now (sizes .entry) .rows) ⌝ }
     {
         let kind = kind_at(card, first)?;
-        Some(Section::new(kind, run_of(card, first, blocks_for(sizes.count(kind))), first))
+        Some(Section::new(
+            kind,
+            run_of(card, first, blocks_for(sizes.count(kind))),
+            first,
+        ))
     }
 
     /// The section that starts at block `first` of a card of these sizes, named by that block's letter.

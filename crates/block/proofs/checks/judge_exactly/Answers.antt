@@ -11,7 +11,8 @@ pub returns : need.returns
 returns c =
     let block = c .args .block .now in
     let small : (k : ℕ) → getD block k 0 < 256 = λ k. c .typed .block k .fits in
-    record
-      { value = c .judge .ensures
-      ; exact = subst (λ (v : Verdict). Exact block (c .args .letter) (c .args .number) (c .args .used) v) (sym (c .judge .ensures))
-          (exact block small (omega arith) (c .args .letter) (c .args .number) (c .args .used) (omega arith)) }
+    record {
+      value = c .judge .ensures;
+      exact = subst (λ (v : Verdict). Exact block (c .args .letter) (c .args .number) (c .args .used) v) (sym (c .judge .ensures))
+          (exact block small (omega arith) (c .args .letter) (c .args .number) (c .args .used) (omega arith));
+    }

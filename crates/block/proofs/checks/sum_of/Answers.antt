@@ -15,9 +15,10 @@ add-total-in-loop-k c =
 pub loop-k-again : need.loop-k-again
 loop-k-again c =
     let small : getD (c .args .block .now) (c .loop-k .k) 0 ≤ 255 = omega arith in
-    let less : c .loop-k .k < length (c .args .block .now) = omega arith in
-    ( omega (arith, weighed-more (c .args .block .now) (c .loop-k .k) less)
-    , omega (arith, mul-le (c .loop-k .k + 1) (getD (c .args .block .now) (c .loop-k .k) 0) 510 255 (omega arith) small))
+    let less : c .loop-k .k < length (c .args .block .now) = omega arith in (
+      omega (arith, weighed-more (c .args .block .now) (c .loop-k .k) less),
+      omega (arith, mul-le (c .loop-k .k + 1) (getD (c .args .block .now) (c .loop-k .k) 0) 510 255 (omega arith) small),
+    )
 
 pub returns : need.returns
 returns c =

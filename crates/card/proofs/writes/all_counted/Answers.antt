@@ -27,11 +27,12 @@ returns-then-not-counted-6 c = λ all. eqb-false _ _ (sym (c .if-not-counted-6 .
 
 pub returns : need.returns
 returns c = λ kind.
-    elim kind as (λ k. length (sections (c .args .sizes .now) (c .args .curvature .now) (c .args .rows .now) (c .args .costs .now) (c .args .bounds .now) (c .args .limits .now) (c .args .slip .now) k) ≡ numbersFor (c .args .sizes .now) k)
-    [ Head ↦ refl
-    | Curvature ↦ eqb-true _ _ (sym (c .if-not-counted .ensures tt))
-    | Rows ↦ eqb-true _ _ (sym (c .if-not-counted-2 .ensures tt))
-    | Costs ↦ eqb-true _ _ (sym (c .if-not-counted-3 .ensures tt))
-    | Bounds ↦ eqb-true _ _ (sym (c .if-not-counted-4 .ensures tt))
-    | Limits ↦ eqb-true _ _ (sym (c .if-not-counted-5 .ensures tt))
-    | Slip ↦ eqb-true _ _ (sym (c .if-not-counted-6 .ensures tt)) ]
+    elim kind as (λ k. length (sections (c .args .sizes .now) (c .args .curvature .now) (c .args .rows .now) (c .args .costs .now) (c .args .bounds .now) (c .args .limits .now) (c .args .slip .now) k) ≡ numbersFor (c .args .sizes .now) k) [
+      | Head ↦ refl
+      | Curvature ↦ eqb-true _ _ (sym (c .if-not-counted .ensures tt))
+      | Rows ↦ eqb-true _ _ (sym (c .if-not-counted-2 .ensures tt))
+      | Costs ↦ eqb-true _ _ (sym (c .if-not-counted-3 .ensures tt))
+      | Bounds ↦ eqb-true _ _ (sym (c .if-not-counted-4 .ensures tt))
+      | Limits ↦ eqb-true _ _ (sym (c .if-not-counted-5 .ensures tt))
+      | Slip ↦ eqb-true _ _ (sym (c .if-not-counted-6 .ensures tt))
+    ]

@@ -12,8 +12,8 @@ returns c =
     let x = c .args .x .now in
     let s = x .sizes in
     let head = sizes-as s (c .ropes .result) (c .rows .result) (c .ropes .ensures) (c .rows .ensures) in
-    record
-      { value =
+    record {
+      value =
           card-written (c .args .out .now) (s .ropes) (s .rows) (numbers x) (c .pre)
           (c .write-section .last .out) (c .write-section-2 .last .out) (c .write-section-3 .last .out) (c .write-section-4 .last .out)
           (c .write-section-5 .last .out) (c .write-section-6 .last .out) (c .write-section-7 .last .out)
@@ -23,17 +23,20 @@ returns c =
           (section-as s Costs (c .write-section-3 .last .out) (c .write-section-4 .last .out) (c .as-slice-3 .result .now) (vec-items (x .costs)) (c .as-slice-3 .ensures .value) (c .write-section-4 .ensures .value))
           (section-as s Bounds (c .write-section-4 .last .out) (c .write-section-5 .last .out) (c .as-slice-4 .result .now) (vec-items (x .bounds)) (c .as-slice-4 .ensures .value) (c .write-section-5 .ensures .value))
           (section-as s Limits (c .write-section-5 .last .out) (c .write-section-6 .last .out) (c .as-slice-5 .result .now) (vec-items (x .limits)) (c .as-slice-5 .ensures .value) (c .write-section-6 .ensures .value))
-          (section-as s Slip (c .write-section-6 .last .out) (c .write-section-7 .last .out) (c .as-slice-6 .result .now) (vec-items (x .slip)) (c .as-slice-6 .ensures .value) (c .write-section-7 .ensures .value))
-      ; proper =
-          record
-            { sizes = record { some = s .some; few = s .few; short = s .short }
-            ; head = refl
-            ; counts = all-counted x
-            ; fits = λ kind. elim kind as (λ k. Fit (numbers x k))
-               [ Head ↦ subst Fit head (c .write-section .ensures .fits)
-                | Curvature ↦ subst Fit (c .as-slice .ensures .value) (c .write-section-2 .ensures .fits)
-                | Rows ↦ subst Fit (c .as-slice-2 .ensures .value) (c .write-section-3 .ensures .fits)
-                | Costs ↦ subst Fit (c .as-slice-3 .ensures .value) (c .write-section-4 .ensures .fits)
-                | Bounds ↦ subst Fit (c .as-slice-4 .ensures .value) (c .write-section-5 .ensures .fits)
-                | Limits ↦ subst Fit (c .as-slice-5 .ensures .value) (c .write-section-6 .ensures .fits)
-                | Slip ↦ subst Fit (c .as-slice-6 .ensures .value) (c .write-section-7 .ensures .fits) ] } }
+          (section-as s Slip (c .write-section-6 .last .out) (c .write-section-7 .last .out) (c .as-slice-6 .result .now) (vec-items (x .slip)) (c .as-slice-6 .ensures .value) (c .write-section-7 .ensures .value));
+      proper =
+          record {
+            sizes = record { some = s .some; few = s .few; short = s .short };
+            head = refl;
+            counts = all-counted x;
+            fits = λ kind. elim kind as (λ k. Fit (numbers x k)) [
+              | Head ↦ subst Fit head (c .write-section .ensures .fits)
+              | Curvature ↦ subst Fit (c .as-slice .ensures .value) (c .write-section-2 .ensures .fits)
+              | Rows ↦ subst Fit (c .as-slice-2 .ensures .value) (c .write-section-3 .ensures .fits)
+              | Costs ↦ subst Fit (c .as-slice-3 .ensures .value) (c .write-section-4 .ensures .fits)
+              | Bounds ↦ subst Fit (c .as-slice-4 .ensures .value) (c .write-section-5 .ensures .fits)
+              | Limits ↦ subst Fit (c .as-slice-5 .ensures .value) (c .write-section-6 .ensures .fits)
+              | Slip ↦ subst Fit (c .as-slice-6 .ensures .value) (c .write-section-7 .ensures .fits)
+            ];
+          };
+    }

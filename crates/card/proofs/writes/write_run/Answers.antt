@@ -21,8 +21,9 @@ pub loop-b-again : need.loop-b-again
 loop-b-again c =
     let nums : List ℤ = c .args .numbers .now in
     let b : ℕ = c .loop-b .b in
-    let left = left-is nums (b * 126) in
-    ( run-more (c .args .out .now) (c .loop-b .out) (c .copy-from-slice .last .self) (c .make-block .result .bytes) (c .args .letter) (c .args .first) b _ nums
-      (c .loop-b .inv .0) (omega arith) (omega arith) (c .copy-from-slice .ensures .after ∙ c .bytes .ensures .value)
-      (c .make-block .ensures .value ∙ ap (λ xs. blockOf (c .args .letter) (c .args .first + b) (take 126 xs)) left)
-    , fits-more nums b (c .loop-b .inv .1) (subst (λ (xs : List ℤ). Fit (take 126 xs)) left (c .make-block .ensures .fits)))
+    let left = left-is nums (b * 126) in (
+      run-more (c .args .out .now) (c .loop-b .out) (c .copy-from-slice .last .self) (c .make-block .result .bytes) (c .args .letter) (c .args .first) b _ nums
+          (c .loop-b .inv .0) (omega arith) (omega arith) (c .copy-from-slice .ensures .after ∙ c .bytes .ensures .value)
+          (c .make-block .ensures .value ∙ ap (λ xs. blockOf (c .args .letter) (c .args .first + b) (take 126 xs)) left),
+      fits-more nums b (c .loop-b .inv .1) (subst (λ (xs : List ℤ). Fit (take 126 xs)) left (c .make-block .ensures .fits)),
+    )

@@ -18,5 +18,5 @@ returns-in-Some c =
     let room : leb (at + 512) (length card) ≡ true = le-leb (at + 512) (length card) (whole .0) in
     let start : at + 0 ≡ at = omega arith in
     let letter : c .letter .result ≡ getD card at 0
-          = c .letter .ensures ∙ (ap (λ b. getD b 0 0) (whole .1) ∙ (block-byte card (c .args .first) 0 (omega arith) ∙ ap (λ n. getD card n 0) start)) in
+    = c .letter .ensures ∙ (ap (λ b. getD b 0 0) (whole .1) ∙ (block-byte card (c .args .first) 0 (omega arith) ∙ ap (λ n. getD card n 0) start)) in
     c .named .ensures .value ∙ (ap kindOf letter ∙ sym (ap (λ t. cond t (kindOf (getD card at 0)) None) room))

@@ -10,7 +10,8 @@ returns c =
     let block = c .args .self .now .bytes in
     let long : length block ≡ 512 = sym (ap length (c .bytes .ensures .value)) ∙ c .bytes .ensures .len in
     let value : c .judge-spare .result ≡ spareCheck block (c .args .number) (c .args .used)
-          = c .judge-spare .ensures ∙ ap (λ b. spareCheck b (c .args .number) (c .args .used)) (c .bytes .ensures .value) in
-    record
-      { value = value
-      ; first = subst (λ (v : Verdict). FirstSpare block (c .args .number) (c .args .used) v) (sym value) (spare-law block (c .args .number) (c .args .used) long) }
+    = c .judge-spare .ensures ∙ ap (λ b. spareCheck b (c .args .number) (c .args .used)) (c .bytes .ensures .value) in
+    record {
+      value = value;
+      first = subst (λ (v : Verdict). FirstSpare block (c .args .number) (c .args .used) v) (sym value) (spare-law block (c .args .number) (c .args .used) long);
+    }

@@ -17,11 +17,12 @@ returns c =
     let B : List ℕ = blockOf (c .args .letter) (c .args .number) nums in
     let short : length nums ≤ 126 = length-part (c .args .numbers .now) in
     let count : min 126 (length (c .args .numbers .now)) ≡ length nums = sym (length-take 126 (c .args .numbers .now)) in
-    record
-      { value = c .lay .ensures .value
-      ; passes = ap (λ b. blockCheck b (c .args .letter) (c .args .number) (min 126 (length (c .args .numbers .now)))) (c .lay .ensures .value)
+    record {
+      value = c .lay .ensures .value;
+      passes = ap (λ b. blockCheck b (c .args .letter) (c .args .number) (min 126 (length (c .args .numbers .now)))) (c .lay .ensures .value)
           ∙ (ap (blockCheck B (c .args .letter) (c .args .number)) count
-          ∙ passes B (c .args .letter) (c .args .number) (length nums) (block-passed (c .args .letter) (c .args .number) nums (omega arith) short))
-      ; reads = ap (λ b. numbersOf b (min 126 (length (c .args .numbers .now)))) (c .lay .ensures .value)
-          ∙ (ap (numbersOf B) count ∙ block-read (c .args .letter) (c .args .number) nums (omega arith) short (c .lay .ensures .fits))
-      ; fits = c .lay .ensures .fits }
+          ∙ passes B (c .args .letter) (c .args .number) (length nums) (block-passed (c .args .letter) (c .args .number) nums (omega arith) short));
+      reads = ap (λ b. numbersOf b (min 126 (length (c .args .numbers .now)))) (c .lay .ensures .value)
+          ∙ (ap (numbersOf B) count ∙ block-read (c .args .letter) (c .args .number) nums (omega arith) short (c .lay .ensures .fits));
+      fits = c .lay .ensures .fits;
+    }

@@ -24,10 +24,11 @@ returns c =
     let proper = c .write-all .ensures .proper in
     let long : bytesNeeded x ≡ length (written x) = sym (length-card (x .sizes .ropes) (x .sizes .rows) (proper .sizes) (numbers x) proper) in
     let size : bytesNeeded x ≡ c .card-bytes-needed .result - 0 = omega arith in
-    record
-      { answer = ap Ok needed ∙ sym (ap (λ t. cond t (Ok (bytesNeeded x)) (Err (Fault.Short (bytesNeeded x)))) room)
-      ; after = putMid-paste 0 (c .card-bytes-needed .result - 0) out (c .write-all .last .out) (written x) (bytesNeeded x) (c .write-all .ensures .value) size long
+    record {
+      answer = ap Ok needed ∙ sym (ap (λ t. cond t (Ok (bytesNeeded x)) (Err (Fault.Short (bytesNeeded x)))) room);
+      after = putMid-paste 0 (c .card-bytes-needed .result - 0) out (c .write-all .last .out) (written x) (bytesNeeded x) (c .write-all .ensures .value) size long
           ∙ (paste-all out 0 (written x) (bytesNeeded x) long
-          ∙ (ap (λ k. written x ++ drop k out) (omega arith) ∙ sym (ap (λ t. cond t (written x ++ drop (bytesNeeded x) out) out) room)))
-      ; passes = card-passes (x .sizes .ropes) (x .sizes .rows) (proper .sizes) (numbers x) proper
-      ; reads = card-reads (x .sizes .ropes) (x .sizes .rows) (proper .sizes) (numbers x) proper }
+          ∙ (ap (λ k. written x ++ drop k out) (omega arith) ∙ sym (ap (λ t. cond t (written x ++ drop (bytesNeeded x) out) out) room)));
+      passes = card-passes (x .sizes .ropes) (x .sizes .rows) (proper .sizes) (numbers x) proper;
+      reads = card-reads (x .sizes .ropes) (x .sizes .rows) (proper .sizes) (numbers x) proper;
+    }

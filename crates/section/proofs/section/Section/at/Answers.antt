@@ -9,6 +9,7 @@ pub returns : need.returns
 returns c =
     let n = c .args .sizes .now .ropes in
     let m = c .args .sizes .now .rows in
-    record
-      { value = c .find .ensures
-      ; located = subst (λ (o : Option Part). Located (c .args .card .now) (c .args .first) n m o) (sym (c .find .ensures)) (located (c .args .card .now) (c .args .first) n m) }
+    record {
+      value = c .find .ensures;
+      located = subst (λ (o : Option Part). Located (c .args .card .now) (c .args .first) n m o) (sym (c .find .ensures)) (located (c .args .card .now) (c .args .first) n m);
+    }
