@@ -1,3 +1,5 @@
 pub mod Integers
-pub mod Limits
+pub mod Bounds
+pub mod Places
 pub mod Products
+pub mod Firsts

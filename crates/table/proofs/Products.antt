@@ -19,7 +19,7 @@ use Rattle.duality.specs.Sums.{∑, row}
 use Rattle.table.specs.Grid.{Grid, heightOf, widthOf, within, placeOf, vectorOf, matrixOf, allWithin, filled, productOf}
 use Rattle.table.specs.Laws.{Bounded, Exactly, Multiplies, Alike}
 use Rattle.table.proofs.Integers.{abs-add, abs-mul-le, fits-below}
-use Rattle.table.proofs.Limits.{cut-below, every-decides, list-near, sum-near}
+use Rattle.table.proofs.Bounds.{cut-below, every-decides, list-near, sum-near}
 
 abbrev can : Grid → ℕ → List ℤ → Bool
 can g i xs = ltb i (heightOf g) && eqb (length xs) (widthOf g) && allWithin 1073741824 xs && filled g i

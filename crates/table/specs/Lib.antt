@@ -1,2 +1,4 @@
 pub mod Grid
 pub mod Laws
+pub mod Layers
+pub mod Records

@@ -5,7 +5,7 @@ use lib.IntN.{natAbs}
 use Rattle.std.specs.Options.{isSome}
 use Rattle.table.specs.Grid.{placeOf, vectorOf}
 use Rattle.table.proofs.Products.{sumTo}
-use Rattle.table.proofs.table.Table.product.Given as given
+use Rattle.table.proofs.interface.Table.product.Given as given
 
 -- of the places passed: their sum, that none was blank, and that the list kept to its limit
 abbrev pub Inv-loop-j : given.InvT-loop-j

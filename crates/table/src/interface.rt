@@ -2,6 +2,7 @@ ghost use mathlib.Core.Path.{_≡_};
 ghost use Prim.Native.Nat.{_≤_, _^_};
 ghost use Rattle.table.specs.Grid.{Grid, heightOf, widthOf, placeOf, productOf};
 ghost use Rattle.table.specs.Laws.{Bounded, Exactly, Multiplies};
+use crate::limits::FACTOR_LIMIT;
 
 pub trait Table {
     ghost meant: { Self → Grid };
@@ -37,6 +38,3 @@ pub trait Table {
         Some(sum)
     }
 }
-
-/// The largest size of a number in a list that a row is multiplied with.
-pub const FACTOR_LIMIT: u64 = 1_073_741_824;

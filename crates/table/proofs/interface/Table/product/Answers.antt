@@ -16,7 +16,7 @@ use Rattle.table.specs.Grid.{placeOf, productOf, vectorOf, widthOf}
 use Rattle.table.specs.Laws.{Multiplies}
 use Rattle.table.proofs.Products.{sumTo, product-none, product-lawful, multiplies-product, term-fits, sum-fits, sum-more, some-more, none-not}
 use Rattle.table.proofs.Integers.{mul-held}
-use Rattle.table.proofs.table.Table.product.Needs as need
+use Rattle.table.proofs.interface.Table.product.Needs as need
 
 pub returns-then-unsigned-abs-gt-FACTOR-LIMIT : need.returns-then-unsigned-abs-gt-FACTOR-LIMIT
 returns-then-unsigned-abs-gt-FACTOR-LIMIT g c =
