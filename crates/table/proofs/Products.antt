@@ -118,6 +118,5 @@ sum-more g i j xs s t n e d p =
 pub some-more : (o : Option ℤ) (n : ℤ) → Some n ≡ o → isSome o ≡ true
 some-more o n e = ap isSome (sym e)
 
-pub none-not : (o : Option ℤ) → o ≡ None → isSome o ≡ true → ⊥
-none-not None e t = false≢true t
-none-not (Some z) e t = let q : _≡_ {A = ℕ} 0 1 = cc in omega arith
+pub none-not : (o : Option ℤ) → None ≡ o → isSome o ≡ true → ⊥
+none-not o e t = false≢true (ap isSome e ∙ t)

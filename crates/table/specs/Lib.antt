@@ -1,4 +1,6 @@
 pub mod Grid
 pub mod Laws
 pub mod Layers
+pub mod LayerLaws
 pub mod Records
+pub mod RecordLaws

@@ -1,4 +1,6 @@
 ghost use mathlib.Core.Path.{_≡_};
+ghost use Rattle.table.specs.Laws.{Alike};
+ghost use Rattle.table.specs.LayerLaws.{AddedUp, Swapped};
 ghost use Rattle.table.specs.Layers.{flipped, summed};
 use crate::interface::Table;
 use crate::limits::limit_number;
@@ -7,6 +9,18 @@ use crate::limits::limit_number;
 #[derive(Drop)]
 pub struct Flip<T> {
     pub below: T,
+}
+
+impl<T: Table> Flip<T> {
+    /// The table with its rows and columns swapped. Each of its rows is multiplied as a column of the table below,
+    /// and flipped twice a table answers as before.
+    pub fn over(below: T) -> Flip<T>
+        ensures holds { λ r. ⌜ r .below ≡ below ⌝ }
+        ensures swapped { λ r. ⌜ Swapped (T·Table .meant below) (flipped (T·Table .meant (r .below))) ⌝ }
+        ensures twice { λ r. ⌜ Alike (flipped (flipped (T·Table .meant (r .below)))) (T·Table .meant below) ⌝ }
+    {
+        Flip { below }
+    }
 }
 
 pub impl<T: Table> Table for Flip<T> as FlipTable {
@@ -30,6 +44,17 @@ pub impl<T: Table> Table for Flip<T> as FlipTable {
 pub struct Sum<T, U> {
     pub left: T,
     pub right: U,
+}
+
+impl<T: Table, U: Table> Sum<T, U> {
+    /// The sum of the two tables. It answers the same whichever of them comes first.
+    pub fn of(left: T, right: U) -> Sum<T, U>
+        ensures holds { λ r. ⌜ r .left ≡ left ⌝ ∗ ⌜ r .right ≡ right ⌝ }
+        ensures added { λ r. ⌜ AddedUp (T·Table .meant left) (U·Table .meant right) (summed (T·Table .meant (r .left)) (U·Table .meant (r .right))) ⌝ }
+        ensures order { λ r. ⌜ Alike (summed (T·Table .meant (r .left)) (U·Table .meant (r .right))) (summed (U·Table .meant right) (T·Table .meant left)) ⌝ }
+    {
+        Sum { left, right }
+    }
 }
 
 pub impl<T: Table, U: Table> Table for Sum<T, U> as SumTable {

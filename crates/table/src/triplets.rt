@@ -1,5 +1,6 @@
 ghost use mathlib.Core.Path.{_≡_};
 ghost use denote.Ref.{now as held};
+ghost use Rattle.table.specs.RecordLaws.{Told};
 ghost use Rattle.table.specs.Records.{isFor, isIndex, recorded, tripletGrid};
 use crate::interface::Table;
 use crate::limits::cut_size;
@@ -46,6 +47,16 @@ pub fn first_number(records: &[Record], i: usize, j: usize) -> i64
         }
     }
     0
+}
+
+impl<'a> Triplets<'a> {
+    /// The table of these sizes and records.
+    pub fn new(height: i64, width: i64, records: &'a [Record]) -> Triplets<'a>
+        ensures holds { λ r. ⌜ r .height ≡ height ⌝ ∗ ⌜ r .width ≡ width ⌝ ∗ ⌜ held (r .records) ≡ now (records .entry) ⌝ }
+        ensures told { λ r. ⌜ Told height width (now (records .entry)) (tripletGrid (r .height) (r .width) (held (r .records))) ⌝ }
+    {
+        Triplets { height, width, records }
+    }
 }
 
 pub impl<'a> Table for Triplets<'a> as TripletsTable {

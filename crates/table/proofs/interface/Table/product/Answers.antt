@@ -31,11 +31,11 @@ returns-then-unsigned-abs-gt-FACTOR-LIMIT g c =
 pub returns-in-Break-number : need.returns-in-Break-number
 returns-in-Break-number g c =
     let grid = g .Self·Table .meant (c .args .self .now) in
-    let blank : placeOf grid (c .args .i) (c .loop-j .j) ≡ None = sym (c .place .ensures .value) ∙ c .in-Break-number .was tt in
-    let e : c .from-residual .result ≡ productOf grid (c .args .i) (c .args .xs .now) =
-        c .from-residual .ensures ∙ sym (product-none grid (c .args .i) (c .args .xs .now) (λ s m.
+    let none : productOf grid (c .args .i) (c .args .xs .now) ≡ None =
+        product-none grid (c .args .i) (c .args .xs .now) (λ s m.
           let l = m .long in
-          none-not _ blank (m .present (c .loop-j .j) (omega arith)))) in
+          none-not (placeOf grid (c .args .i) (c .loop-j .j)) (c .in-Break-number .ensures tt .value) (m .present (c .loop-j .j) (omega arith))) in
+    let e : c .from-residual .result ≡ productOf grid (c .args .i) (c .args .xs .now) = _∙_ {b = None} (c .from-residual .ensures) (sym none) in
     let p = product-lawful grid (c .args .i) (c .args .xs .now) (c .from-residual .result) e in
     record { value = e; bound = p .0; exactly = p .1 }
 
