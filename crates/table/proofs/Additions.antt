@@ -48,7 +48,7 @@ products g h i xs a b c p q m =
     let wh : n ≡ widthOf h = sym (m .long) ∙ q .long in
     m .total
     ∙ ∑-cong n (λ j. matrixOf (summed g h) i j *ℤ vectorOf xs j) (λ j. (matrixOf g i j *ℤ vectorOf xs j) +ℤ (matrixOf h i j *ℤ vectorOf xs j))
-        (λ j l. ap (λ (z : ℤ). z *ℤ vectorOf xs j) (entries g h i j (m .present j l)) ∙ *ℤ-distr (matrixOf g i j) (matrixOf h i j) (vectorOf xs j))
+    (λ j l. ap (λ (z : ℤ). z *ℤ vectorOf xs j) (entries g h i j (m .present j l)) ∙ *ℤ-distr (matrixOf g i j) (matrixOf h i j) (vectorOf xs j))
     ∙ ∑-add n (λ j. matrixOf g i j *ℤ vectorOf xs j) (λ j. matrixOf h i j *ℤ vectorOf xs j)
     ∙ ap (λ (z : ℤ). z +ℤ ∑ n (λ j. matrixOf h i j *ℤ vectorOf xs j)) (ap (λ (k : ℕ). ∑ k (λ j. matrixOf g i j *ℤ vectorOf xs j)) wg ∙ sym (p .total))
     ∙ ap (λ (z : ℤ). a +ℤ z) (ap (λ (k : ℕ). ∑ k (λ j. matrixOf h i j *ℤ vectorOf xs j)) wh ∙ sym (q .total))
@@ -65,6 +65,6 @@ added-swap (Some x) (Some y) = ap (λ (z : ℤ). Some z) (+ℤ-comm x y)
 pub summed-order : (g h : Grid) → Alike (summed g h) (summed h g)
 summed-order g h =
     alike (summed g h) (summed h g)
-      (let p = summed-high g h in let q = summed-high h g in omega arith)
-      (let p = summed-wide g h in let q = summed-wide h g in omega arith)
-      (λ i j. summed-place g h i j ∙ ap limited (added-swap (placeOf g i j) (placeOf h i j)) ∙ sym (summed-place h g i j))
+    (let p = summed-high g h in let q = summed-high h g in omega arith)
+    (let p = summed-wide g h in let q = summed-wide h g in omega arith)
+    (λ i j. summed-place g h i j ∙ ap limited (added-swap (placeOf g i j) (placeOf h i j)) ∙ sym (summed-place h g i j))

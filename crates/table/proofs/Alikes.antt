@@ -14,18 +14,32 @@ use Rattle.table.specs.Grid.{Grid, heightOf, widthOf, placeOf, matrixOf, vecto
 use Rattle.table.specs.Laws.{Multiplies, Alike}
 use Rattle.table.proofs.Products.{multiplies-product, product-multiplies, product-none}
 
-multiplies-alike : (g h : Grid) (i : ℕ) (xs : List ℤ) (s : ℤ) → heightOf g ≡ heightOf h → widthOf g ≡ widthOf h → ((i j : ℕ) → placeOf g i j ≡ placeOf h i j) → Multiplies g i xs s → Multiplies h i xs s
-multiplies-alike g h i xs s high wide places m =
+multiplies-row : (g h : Grid) (i k : ℕ) (xs : List ℤ) (s : ℤ) → (i < heightOf g → k < heightOf h) → widthOf g ≡ widthOf h
+    → ((j : ℕ) → j < widthOf g → placeOf g i j ≡ placeOf h k j) → Multiplies g i xs s → Multiplies h k xs s
+multiplies-row g h i k xs s inside wide places m =
     record {
-      inside = let l = m .inside in omega arith;
+      inside = inside (m .inside);
       long = m .long ∙ wide;
       near = λ j l. m .near j (omega arith);
-      present = λ j l. ap isSome (sym (places i j)) ∙ m .present j (omega arith);
+      present = λ j l. let n : j < widthOf g = omega arith in ap isSome (sym (places j n)) ∙ m .present j n;
       total =
-        m .total
-        ∙ ap (λ (n : ℕ). ∑ n (λ j. matrixOf g i j *ℤ vectorOf xs j)) wide
-        ∙ ∑-cong (widthOf h) (λ j. matrixOf g i j *ℤ vectorOf xs j) (λ j. matrixOf h i j *ℤ vectorOf xs j) (λ j l. ap (λ (o : Option ℤ). valueOr o (pos 0) *ℤ vectorOf xs j) (places i j))
+          m .total
+          ∙ ∑-cong (widthOf g) (λ j. matrixOf g i j *ℤ vectorOf xs j) (λ j. matrixOf h k j *ℤ vectorOf xs j) (λ j l. ap (λ (o : Option ℤ). valueOr o (pos 0) *ℤ vectorOf xs j) (places j l))
+          ∙ ap (λ (n : ℕ). ∑ n (λ j. matrixOf h k j *ℤ vectorOf xs j)) wide;
     }
+
+-- rows of two grids with the same places have the same products
+pub same-product : (g h : Grid) (i k : ℕ) (xs : List ℤ) → (i < heightOf g → k < heightOf h) → (k < heightOf h → i < heightOf g) → widthOf g ≡ widthOf h
+    → ((j : ℕ) → j < widthOf g → placeOf g i j ≡ placeOf h k j) → productOf g i xs ≡ productOf h k xs
+same-product g h i k xs there back wide places = same (productOf g i xs) (product-multiplies g i xs) refl
+  where
+    same : (o : Option ℤ) → ((s : ℤ) → o ≡ Some s → Multiplies g i xs s) → productOf g i xs ≡ o → o ≡ productOf h k xs
+    same (Some s) f e = sym (multiplies-product h k xs s (multiplies-row g h i k xs s there wide places (f s refl)))
+    same None f e =
+        sym (product-none h k xs (λ s m.
+        let p = multiplies-product g i xs s (multiplies-row h g k i xs s back (sym wide) (λ j l. sym (places j (omega arith))) m) in
+        let z : _≡_ {A = ℕ} 0 1 = cc in
+        omega arith))
 
 pub alike : (g h : Grid) → heightOf g ≡ heightOf h → widthOf g ≡ widthOf h → ((i j : ℕ) → placeOf g i j ≡ placeOf h i j) → Alike g h
 alike g h high wide places =
@@ -33,16 +47,8 @@ alike g h high wide places =
       high = high;
       wide = wide;
       places = places;
-      products = λ i xs. same i xs (productOf g i xs) (product-multiplies g i xs) refl
+      products = λ i xs. same-product g h i i xs (λ l. omega arith) (λ l. omega arith) wide (λ j _. places i j);
     }
-  where
-    same : (i : ℕ) (xs : List ℤ) (o : Option ℤ) → ((s : ℤ) → o ≡ Some s → Multiplies g i xs s) → productOf g i xs ≡ o → o ≡ productOf h i xs
-    same i xs (Some s) f e = sym (multiplies-product h i xs s (multiplies-alike g h i xs s high wide places (f s refl)))
-    same i xs None f e =
-        sym (product-none h i xs (λ s m.
-          let p = multiplies-product g i xs s (multiplies-alike h g i xs s (sym high) (sym wide) (λ i j. sym (places i j)) m) in
-          let z : _≡_ {A = ℕ} 0 1 = cc in
-          omega arith))
 
 pub alike-self : (g : Grid) → Alike g g
 alike-self g = alike g g refl refl (λ i j. refl)

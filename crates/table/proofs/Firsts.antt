@@ -1,5 +1,5 @@
 -- The first record for a place, as a loop along the records finds it.
-use Prim.Native.Nat.{ℕ, _+_, _<_, _≤_}
+use Prim.Native.Nat.{ℕ, _+_, _-_, _<_, _≤_}
 use mathlib.Core.Bool.{Bool, true, false, cond}
 use mathlib.Core.List.{List, [], _∷_, _++_}
 use mathlib.Core.Logic.{⊎-elim}
@@ -14,9 +14,12 @@ use Rattle.std.specs.Orderings.{Decides}
 use Rattle.std.specs.shelf.Lists.{All}
 use Rattle.std.specs.declared.option.Option.the-variants.{Some}
 use Rattle.table.specs.declared.triplets.Record.{Record}
-use Rattle.table.specs.Grid.{limited}
-use Rattle.table.specs.Records.{isIndex, isFor, recorded, tripletGrid}
+use Rattle.table.specs.Grid.{cut, heightOf, widthOf, limited, vectorOf, productOf}
+use Rattle.table.specs.Lines.{lineGrid}
+use Rattle.table.specs.Records.{isIndex, isFor, recorded, tripletGrid, Written}
 use Rattle.table.specs.RecordLaws.{For, NotFor, Told}
+use Rattle.table.proofs.Alikes.{same-product}
+use Rattle.table.proofs.Bounds.{cut-below}
 use Rattle.table.proofs.Places.{place-inside}
 
 pub recorded-here : (rs : List Record) (k : ℕ) (d : Record) (i j : ℕ) → k < length rs → isFor (getD rs k d) i j ≡ true → recorded (drop k rs) i j ≡ getD rs k d .number
@@ -57,7 +60,33 @@ told high wide rs =
       tall = refl;
       broad = refl;
       first = λ i j h w before after r e n f.
-        place-inside (tripletGrid high wide rs) i j h w
-        ∙ ap (λ (z : ℤ). limited (Some z)) (ap (λ (l : List Record). recorded l i j) e ∙ recorded-first before after r i j n f);
-      absent = λ i j h w n. place-inside (tripletGrid high wide rs) i j h w ∙ ap (λ (z : ℤ). limited (Some z)) (recorded-absent rs i j n)
+          place-inside (tripletGrid high wide rs) i j h w
+          ∙ ap (λ (z : ℤ). limited (Some z)) (ap (λ (l : List Record). recorded l i j) e ∙ recorded-first before after r i j n f);
+      absent = λ i j h w n. place-inside (tripletGrid high wide rs) i j h w ∙ ap (λ (z : ℤ). limited (Some z)) (recorded-absent rs i j n);
     }
+
+-- a row of numbers, written from the last record to the first ------------------------------
+
+recorded-more : (rs : List Record) (k : ℕ) (d : Record) (i j : ℕ) → 0 < k → k ≤ length rs
+    → recorded (drop (k - 1) rs) i j ≡ cond (isFor (getD rs (k - 1) d) i j) (getD rs (k - 1) d .number) (recorded (drop k rs) i j)
+recorded-more rs k d i j low high =
+    let back : k - 1 + 1 ≡ k = omega arith in
+    at-drop-more (λ l. recorded l i j) rs (k - 1) d (omega arith)
+    ∙ ap (λ (n : ℕ). cond (isFor (getD rs (k - 1) d) i j) (getD rs (k - 1) d .number) (recorded (drop n rs) i j)) back
+
+pub row-more : (rs : List Record) (k : ℕ) (d : Record) (i : ℕ) (old new : List ℤ) → 0 < k → k ≤ length rs → length old ≡ 64
+    → ((j : ℕ) → j < 64 → vectorOf old j ≡ recorded (drop k rs) i j) → Written old (getD rs (k - 1) d) i new
+    → (j : ℕ) → j < 64 → vectorOf new j ≡ recorded (drop (k - 1) rs) i j
+row-more rs k d i old new low high long before written j h =
+    let r = getD rs (k - 1) d in
+    written j (omega arith) ∙ ap (λ (z : ℤ). cond (isFor r i j) (r .number) z) (before j h) ∙ sym (recorded-more rs k d i j low high)
+
+pub line-product : (high wide : ℤ) (rs : List Record) (i : ℕ) (xs ns : List ℤ) → i < cut high → length ns ≡ cut wide → ((j : ℕ) → j < cut wide → vectorOf ns j ≡ recorded rs i j)
+    → productOf (lineGrid ns) 0 xs ≡ productOf (tripletGrid high wide rs) i xs
+line-product high wide rs i xs ns inside long same =
+    let w : widthOf (lineGrid ns) ≡ cut wide = let b = cut-below wide in omega arith in
+    same-product (lineGrid ns) (tripletGrid high wide rs) 0 i xs (λ _. inside) (λ _. omega arith) w (λ j h.
+    let l : j < cut wide = omega arith in
+    place-inside (lineGrid ns) 0 j (omega arith) h
+    ∙ ap (λ (z : ℤ). limited (Some z)) (same j l)
+    ∙ sym (place-inside (tripletGrid high wide rs) i j inside l))

@@ -35,26 +35,28 @@ summed-place g h i j = ⊎-elim (λ (a : i < heightOf g). ⊎-elim (λ (b : j < 
     left out =
         place-outside (summed g h) i j (λ a b. out (omega arith) (omega arith))
         ∙ sym (ap (λ (o : Option ℤ). limited (added o (placeOf h i j))) (place-outside g i j out))
+
     beyond : (i < heightOf h → j < widthOf h → ⊥) → placeOf (summed g h) i j ≡ limited (added (placeOf g i j) (placeOf h i j))
     beyond out =
         place-outside (summed g h) i j (λ a b. out (omega arith) (omega arith))
         ∙ sym (ap (λ (o : Option ℤ). limited (added (placeOf g i j) o)) (place-outside h i j out) ∙ ap limited (added-none (placeOf g i j)))
+
     right : i < heightOf g → j < widthOf g → placeOf (summed g h) i j ≡ limited (added (placeOf g i j) (placeOf h i j))
     right a b =
         ⊎-elim
-          (λ (c : i < heightOf h). ⊎-elim
-            (λ (d : j < widthOf h). let p = cut-below (g .rows) in let q = cut-below (g .columns) in place-inside (summed g h) i j (omega arith) (omega arith))
-            (λ (d : widthOf h ≤ j). beyond (λ _ w. omega arith))
-            (cases-lt j (widthOf h)))
-          (λ (c : heightOf h ≤ i). beyond (λ w _. omega arith))
-          (cases-lt i (heightOf h))
+        (λ (c : i < heightOf h). ⊎-elim
+        (λ (d : j < widthOf h). let p = cut-below (g .rows) in let q = cut-below (g .columns) in place-inside (summed g h) i j (omega arith) (omega arith))
+        (λ (d : widthOf h ≤ j). beyond (λ _ w. omega arith))
+        (cases-lt j (widthOf h)))
+        (λ (c : heightOf h ≤ i). beyond (λ w _. omega arith))
+        (cases-lt i (heightOf h))
 
 -- a sum's place where both are numbers
 pub summed-at : (g h : Grid) (i j : ℕ) (a b z : ℤ) → Some a ≡ placeOf g i j → Some b ≡ placeOf h i j → z ≡ a +ℤ b → limited (Some z) ≡ placeOf (summed g h) i j
 summed-at g h i j a b z p q e =
     let s = summed-place g h i j in
     let t : limited (added (Some a) (Some b)) ≡ limited (added (placeOf g i j) (placeOf h i j)) =
-        ap (λ (o : Option ℤ). limited (added o (Some b))) p ∙ ap (λ (o : Option ℤ). limited (added (placeOf g i j) o)) q in
+    ap (λ (o : Option ℤ). limited (added o (Some b))) p ∙ ap (λ (o : Option ℤ). limited (added (placeOf g i j) o)) q in
     ap (λ (x : ℤ). limited (Some x)) e ∙ t ∙ sym s
 
 -- what an answer that equals the place owes besides

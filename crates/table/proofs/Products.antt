@@ -35,16 +35,16 @@ can-multiplies g i xs e =
       long = long;
       near = λ j h. list-near 1073741824 xs j (c .1) (omega arith);
       present = every-decides (λ j. isSome (placeOf g i j)) (widthOf g) .0 (d .1);
-      total = refl
+      total = refl;
     }
 
 multiplies-can : (g : Grid) (i : ℕ) (xs : List ℤ) (s : ℤ) → Multiplies g i xs s → can g i xs ≡ true
 multiplies-can g i xs s m =
     and-from (ltb i (heightOf g) && eqb (length xs) (widthOf g) && allWithin 1073741824 xs) (filled g i)
-      (and-from (ltb i (heightOf g) && eqb (length xs) (widthOf g)) (allWithin 1073741824 xs)
-        (and-from (ltb i (heightOf g)) (eqb (length xs) (widthOf g)) (lt-ltb _ _ (m .inside)) (eq-eqb _ _ (m .long)))
-        (every-decides (λ j. within 1073741824 (vectorOf xs j)) (length xs) .1 (λ j h. le-leb _ _ (m .near j (let l : length xs ≡ widthOf g = m .long in omega arith)))))
-      (every-decides (λ j. isSome (placeOf g i j)) (widthOf g) .1 (m .present))
+    (and-from (ltb i (heightOf g) && eqb (length xs) (widthOf g)) (allWithin 1073741824 xs)
+    (and-from (ltb i (heightOf g)) (eqb (length xs) (widthOf g)) (lt-ltb _ _ (m .inside)) (eq-eqb _ _ (m .long)))
+    (every-decides (λ j. within 1073741824 (vectorOf xs j)) (length xs) .1 (λ j h. le-leb _ _ (m .near j (let l : length xs ≡ widthOf g = m .long in omega arith)))))
+    (every-decides (λ j. isSome (placeOf g i j)) (widthOf g) .1 (m .present))
 
 pub multiplies-product : (g : Grid) (i : ℕ) (xs : List ℤ) (s : ℤ) → Multiplies g i xs s → productOf g i xs ≡ Some s
 multiplies-product g i xs s m = cond-true (can g i xs) _ None (multiplies-can g i xs s m) ∙ ap (λ (z : ℤ). Some z) (sym (m .total))
@@ -58,6 +58,7 @@ product-multiplies g i xs s e = ⊎-elim given refused (cases-bool (can g i xs))
         let q : row (widthOf g) (matrixOf g) (vectorOf xs) i ≡ s = cc in
         let m = can-multiplies g i xs t in
         record { inside = m .inside; long = m .long; near = m .near; present = m .present; total = sym q }
+
     refused : can g i xs ≡ false → Multiplies g i xs s
     refused t =
         let p : productOf g i xs ≡ None = cond-false (can g i xs) (Some (row (widthOf g) (matrixOf g) (vectorOf xs) i)) None t in
@@ -99,7 +100,7 @@ pub term-fits : (n x : ℤ) → natAbs n ≤ 1048576 → natAbs x ≤ 1073741824
 term-fits n x p q = let m = abs-mul-le n x 1048576 1073741824 p q in fits-below (n *ℤ x) (omega arith)
 
 pub sum-fits : (g : Grid) (i j : ℕ) (xs : List ℤ) (s t n x : ℤ) → s ≡ sumTo g i xs j → t ≡ n *ℤ x → ((k : ℕ) → k < j → natAbs (vectorOf xs k) ≤ 1073741824) → j ≤ 64
-  → natAbs n ≤ 1048576 → natAbs x ≤ 1073741824 → SFits w64 (s +ℤ t)
+    → natAbs n ≤ 1048576 → natAbs x ≤ 1073741824 → SFits w64 (s +ℤ t)
 sum-fits g i j xs s t n x e d near short p q =
     let m = abs-mul-le n x 1048576 1073741824 p q in
     let b = sum-near g i j xs near in

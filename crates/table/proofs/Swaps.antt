@@ -36,7 +36,7 @@ row-down g j xs s m =
       long = m .long;
       near = m .near;
       present = λ i l. ap isSome (sym (flipped-place g j i)) ∙ m .present i l;
-      total = m .total ∙ column g j xs
+      total = m .total ∙ column g j xs;
     }
 
 down-row : (g : Grid) (j : ℕ) (xs : List ℤ) (s : ℤ) → MultipliesDown g j xs s → Multiplies (flipped g) j xs s
@@ -46,7 +46,7 @@ down-row g j xs s m =
       long = m .long;
       near = m .near;
       present = λ i l. ap isSome (flipped-place g j i) ∙ m .present i l;
-      total = m .total ∙ sym (column g j xs)
+      total = m .total ∙ sym (column g j xs);
     }
 
 pub swapped : (g : Grid) → Swapped g (flipped g)
@@ -58,5 +58,5 @@ swapped g =
       products = λ j xs s. (
         λ e. row-down g j xs s (product-multiplies (flipped g) j xs s e),
         λ m. multiplies-product (flipped g) j xs s (down-row g j xs s m),
-      )
+      );
     }

@@ -62,5 +62,5 @@ filled g i = every (widthOf g) (λ j. isSome (placeOf g i j))
 abbrev pub productOf : Grid → ℕ → List ℤ → Option ℤ
 productOf g i xs =
     cond (ltb i (heightOf g) && eqb (length xs) (widthOf g) && allWithin 1073741824 xs && filled g i)
-      (Some (row (widthOf g) (matrixOf g) (vectorOf xs) i))
-      None
+    (Some (row (widthOf g) (matrixOf g) (vectorOf xs) i))
+    None

@@ -21,5 +21,5 @@ summed g h =
     record {
       rows = pos (min (heightOf g) (heightOf h));
       columns = pos (min (widthOf g) (widthOf h));
-      entry = λ i j. added (placeOf g i j) (placeOf h i j)
+      entry = λ i j. added (placeOf g i j) (placeOf h i j);
     }

@@ -3,4 +3,5 @@ pub mod Laws
 pub mod Layers
 pub mod LayerLaws
 pub mod Records
+pub mod Lines
 pub mod RecordLaws

@@ -18,5 +18,5 @@ pub record Told (high wide : ℤ) (rs : List Record) (g : Grid) : Type 0 where
   pub tall : heightOf g ≡ cut high
   pub broad : widthOf g ≡ cut wide
   pub first : (i j : ℕ) → i < heightOf g → j < widthOf g → (before after : List Record) (r : Record) → rs ≡ before ++ (r ∷ after)
-    → All (NotFor i j) before → For i j r → placeOf g i j ≡ limited (Some (r .number))
+      → All (NotFor i j) before → For i j r → placeOf g i j ≡ limited (Some (r .number))
   pub absent : (i j : ℕ) → i < heightOf g → j < widthOf g → All (NotFor i j) rs → placeOf g i j ≡ Some (pos 0)

@@ -1,3 +1,4 @@
+//! Layers over tables of any kind.
 ghost use mathlib.Core.Path.{_≡_};
 ghost use Rattle.table.specs.Laws.{Alike};
 ghost use Rattle.table.specs.LayerLaws.{AddedUp, Swapped};

@@ -1,3 +1,4 @@
+//! The limits of a table, and how sizes and numbers are brought within them.
 ghost use mathlib.Core.Path.{_≡_};
 ghost use Rattle.std.specs.declared.option.Option.the-variants.{Some};
 ghost use Rattle.table.specs.Grid.{cut, limited};

@@ -21,8 +21,8 @@ returns g c =
     let fb : SFits w64 (c .in-Continue-b .b) = search needs in
     let near = abs-add (c .in-Continue-a .a) (c .in-Continue-b .b) in
     let fab : SFits w64 (c .in-Continue-a .a +ℤ c .in-Continue-b .b) =
-        fits-below _ (omega (arith, c .in-Continue-a .ensures tt .bound, c .in-Continue-b .ensures tt .bound)) in
+    fits-below _ (omega (arith, c .in-Continue-a .ensures tt .bound, c .in-Continue-b .ensures tt .bound)) in
     let sum = add-held (c .in-Continue-a .a) (c .in-Continue-b .b) fa fb fab in
     let e : c .limit-number .result ≡ placeOf (summed left right) (c .args .i) (c .args .j) =
-        c .limit-number .ensures ∙ summed-at left right (c .args .i) (c .args .j) (c .in-Continue-a .a) (c .in-Continue-b .b) _ a b sum in
+    c .limit-number .ensures ∙ summed-at left right (c .args .i) (c .args .j) (c .in-Continue-a .a) (c .in-Continue-b .b) _ a b sum in
     record { value = e; bound = place-lawful (summed left right) (c .args .i) (c .args .j) _ e }

@@ -10,5 +10,5 @@ returns c =
     let fw = c .fits .width in
     record {
       holds = (toZ-ofZ w64 _ fh, (toZ-ofZ w64 _ fw, refl));
-      told = simp toZ-ofZ (told (c .args .height) (c .args .width) (c .args .records .now))
+      told = simp toZ-ofZ (told (c .args .height) (c .args .width) (c .args .records .now));
     }
