@@ -30,10 +30,10 @@ limited-near None = tt
 limited-near (Some z) = cond-both (within 1048576 z) (Some z) None (Bounded 1048576) (λ e. leb-true _ _ e) (λ e. tt)
 
 pub place-near : (g : Grid) (i j : ℕ) → Bounded 1048576 (placeOf g i j)
-place-near g i j = cond-both (ltb i (heightOf g) && ltb j (widthOf g)) (limited (g .entry i j)) None (Bounded 1048576) (λ e. limited-near (g .entry i j)) (λ e. tt)
+place-near g i j = cond-both (ltb i (heightOf g) && ltb j (widthOf g)) (limited (g .cell i j)) None (Bounded 1048576) (λ e. limited-near (g .cell i j)) (λ e. tt)
 
-pub entry-near : (g : Grid) (i j : ℕ) → natAbs (matrixOf g i j) ≤ 1048576
-entry-near g i j = near (placeOf g i j) (place-near g i j)
+pub matrix-near : (g : Grid) (i j : ℕ) → natAbs (matrixOf g i j) ≤ 1048576
+matrix-near g i j = near (placeOf g i j) (place-near g i j)
   where
     near : (o : Option ℤ) → Bounded 1048576 o → natAbs (valueOr o (pos 0)) ≤ 1048576
     near None b = omega arith
@@ -44,4 +44,4 @@ list-near m xs j e h = leb-true _ _ (every-decides (λ k. within m (vectorOf xs 
 
 -- a sum over the first n places of a row, whose list numbers keep to their limit
 pub sum-near : (g : Grid) (i n : ℕ) (xs : List ℤ) → ((j : ℕ) → j < n → natAbs (vectorOf xs j) ≤ 1073741824) → natAbs (∑ n (λ j. matrixOf g i j *ℤ vectorOf xs j)) ≤ n * 2 ^ 50
-sum-near g i n xs h = abs-sum (λ j. matrixOf g i j *ℤ vectorOf xs j) (2 ^ 50) n (λ j l. abs-mul-le (matrixOf g i j) (vectorOf xs j) 1048576 1073741824 (entry-near g i j) (h j l))
+sum-near g i n xs h = abs-sum (λ j. matrixOf g i j *ℤ vectorOf xs j) (2 ^ 50) n (λ j l. abs-mul-le (matrixOf g i j) (vectorOf xs j) 1048576 1073741824 (matrix-near g i j) (h j l))

@@ -2,6 +2,7 @@ pub mod Integers
 pub mod Bounds
 pub mod Places
 pub mod Products
+pub mod Along
 pub mod Alikes
 pub mod Firsts
 pub mod Swaps

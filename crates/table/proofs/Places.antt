@@ -14,11 +14,11 @@ use Rattle.table.specs.Layers.{added, flipped, summed}
 use Rattle.table.specs.Laws.{Bounded}
 use Rattle.table.proofs.Bounds.{cut-below, place-near}
 
-pub place-inside : (g : Grid) (i j : ℕ) → i < heightOf g → j < widthOf g → placeOf g i j ≡ limited (g .entry i j)
+pub place-inside : (g : Grid) (i j : ℕ) → i < heightOf g → j < widthOf g → placeOf g i j ≡ limited (g .cell i j)
 place-inside g i j h w = cond-true _ _ None (and-from (ltb i (heightOf g)) (ltb j (widthOf g)) (lt-ltb _ _ h) (lt-ltb _ _ w))
 
 pub place-outside : (g : Grid) (i j : ℕ) → (i < heightOf g → j < widthOf g → ⊥) → placeOf g i j ≡ None
-place-outside g i j out = ⊎-elim within-it (λ t. cond-false _ (limited (g .entry i j)) None t) (cases-bool (ltb i (heightOf g) && ltb j (widthOf g)))
+place-outside g i j out = ⊎-elim within-it (λ t. cond-false _ (limited (g .cell i j)) None t) (cases-bool (ltb i (heightOf g) && ltb j (widthOf g)))
   where
     within-it : (ltb i (heightOf g) && ltb j (widthOf g)) ≡ true → placeOf g i j ≡ None
     within-it t = let p = and-parts (ltb i (heightOf g)) (ltb j (widthOf g)) t in absurd (out (ltb-true _ _ (p .0)) (ltb-true _ _ (p .1)))

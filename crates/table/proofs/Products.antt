@@ -1,30 +1,23 @@
 -- When a row can be multiplied with a list, and what comes of it.
-use Prim.Native.Nat.{ℕ, _+_, _*_, _^_, _<_, _≤_}
+use Prim.Native.Nat.{ℕ, _*_, _^_, _<_, _≤_}
 use mathlib.Core.Bool.{Bool, true, false, cond, _&&_}
 use mathlib.Core.List.{List}
-use mathlib.Core.Logic.{_⊎_, inl, inr, ⊎-elim}
+use mathlib.Core.Logic.{⊎-elim}
 use mathlib.Core.Path.{_≡_, refl, sym, ap, subst, _∙_}
 use lib.Dec.{ltb, eqb}
-use lib.IntN.{ℤ, pos, natAbs, _+ℤ_, _*ℤ_}
+use lib.IntN.{ℤ, pos, natAbs}
 use lib.ListN.{length}
 use native.Mathlib.Omega.{arith}
-use native.Mathlib.Numerals.{add-one}
-use mir.Val.{SFits}
-use mir.Syntax.{w64}
-use Rattle.std.proofs.shelf.Tests.{and-parts, and-from, cond-true, cond-false, cases-bool, lt-ltb, ltb-true, eq-eqb, eqb-true, le-leb, false≢true}
-use Rattle.std.specs.Options.{isSome, valueOr}
+use Rattle.std.proofs.shelf.Tests.{and-parts, and-from, cond-true, cond-false, cases-bool, lt-ltb, ltb-true, eq-eqb, eqb-true, le-leb}
+use Rattle.std.specs.Options.{isSome}
 use Rattle.std.specs.declared.option.Option.{Option}
 use Rattle.std.specs.declared.option.Option.the-variants.{Some, None}
-use Rattle.duality.specs.Sums.{∑, row}
-use Rattle.table.specs.Grid.{Grid, heightOf, widthOf, within, placeOf, vectorOf, matrixOf, allWithin, filled, productOf}
-use Rattle.table.specs.Laws.{Bounded, Exactly, Multiplies, Alike}
-use Rattle.table.proofs.Integers.{abs-add, abs-mul-le, fits-below}
+use Rattle.duality.specs.Sums.{row}
+use Rattle.table.specs.Grid.{Grid, heightOf, widthOf, within, placeOf, vectorOf, matrixOf, allWithin, filled, multipliable, productOf}
+use Rattle.table.specs.Laws.{Bounded, Exactly, Multiplies}
 use Rattle.table.proofs.Bounds.{cut-below, every-decides, list-near, sum-near}
 
-abbrev can : Grid → ℕ → List ℤ → Bool
-can g i xs = ltb i (heightOf g) && eqb (length xs) (widthOf g) && allWithin 1073741824 xs && filled g i
-
-can-multiplies : (g : Grid) (i : ℕ) (xs : List ℤ) → can g i xs ≡ true → Multiplies g i xs (row (widthOf g) (matrixOf g) (vectorOf xs) i)
+can-multiplies : (g : Grid) (i : ℕ) (xs : List ℤ) → multipliable g i xs ≡ true → Multiplies g i xs (row (widthOf g) (matrixOf g) (vectorOf xs) i)
 can-multiplies g i xs e =
     let d = and-parts (ltb i (heightOf g) && eqb (length xs) (widthOf g) && allWithin 1073741824 xs) (filled g i) e in
     let c = and-parts (ltb i (heightOf g) && eqb (length xs) (widthOf g)) (allWithin 1073741824 xs) (d .0) in
@@ -38,7 +31,7 @@ can-multiplies g i xs e =
       total = refl;
     }
 
-multiplies-can : (g : Grid) (i : ℕ) (xs : List ℤ) (s : ℤ) → Multiplies g i xs s → can g i xs ≡ true
+multiplies-can : (g : Grid) (i : ℕ) (xs : List ℤ) (s : ℤ) → Multiplies g i xs s → multipliable g i xs ≡ true
 multiplies-can g i xs s m =
     and-from (ltb i (heightOf g) && eqb (length xs) (widthOf g) && allWithin 1073741824 xs) (filled g i)
     (and-from (ltb i (heightOf g) && eqb (length xs) (widthOf g)) (allWithin 1073741824 xs)
@@ -47,21 +40,21 @@ multiplies-can g i xs s m =
     (every-decides (λ j. isSome (placeOf g i j)) (widthOf g) .1 (m .present))
 
 pub multiplies-product : (g : Grid) (i : ℕ) (xs : List ℤ) (s : ℤ) → Multiplies g i xs s → productOf g i xs ≡ Some s
-multiplies-product g i xs s m = cond-true (can g i xs) _ None (multiplies-can g i xs s m) ∙ ap (λ (z : ℤ). Some z) (sym (m .total))
+multiplies-product g i xs s m = cond-true (multipliable g i xs) _ None (multiplies-can g i xs s m) ∙ ap (λ (z : ℤ). Some z) (sym (m .total))
 
 pub product-multiplies : (g : Grid) (i : ℕ) (xs : List ℤ) (s : ℤ) → productOf g i xs ≡ Some s → Multiplies g i xs s
-product-multiplies g i xs s e = ⊎-elim given refused (cases-bool (can g i xs))
+product-multiplies g i xs s e = ⊎-elim given refused (cases-bool (multipliable g i xs))
   where
-    given : can g i xs ≡ true → Multiplies g i xs s
+    given : multipliable g i xs ≡ true → Multiplies g i xs s
     given t =
-        let p : productOf g i xs ≡ Some (row (widthOf g) (matrixOf g) (vectorOf xs) i) = cond-true (can g i xs) _ None t in
+        let p : productOf g i xs ≡ Some (row (widthOf g) (matrixOf g) (vectorOf xs) i) = cond-true (multipliable g i xs) _ None t in
         let q : row (widthOf g) (matrixOf g) (vectorOf xs) i ≡ s = cc in
         let m = can-multiplies g i xs t in
         record { inside = m .inside; long = m .long; near = m .near; present = m .present; total = sym q }
 
-    refused : can g i xs ≡ false → Multiplies g i xs s
+    refused : multipliable g i xs ≡ false → Multiplies g i xs s
     refused t =
-        let p : productOf g i xs ≡ None = cond-false (can g i xs) (Some (row (widthOf g) (matrixOf g) (vectorOf xs) i)) None t in
+        let p : productOf g i xs ≡ None = cond-false (multipliable g i xs) (Some (row (widthOf g) (matrixOf g) (vectorOf xs) i)) None t in
         let z : _≡_ {A = ℕ} 0 1 = cc in
         absurd (omega arith)
 
@@ -90,34 +83,3 @@ product-near g i xs = near (productOf g i xs) (product-multiplies g i xs)
 -- what an answer that equals the product owes besides
 pub product-lawful : (g : Grid) (i : ℕ) (xs : List ℤ) (r : Option ℤ) → r ≡ productOf g i xs → Bounded (2 ^ 56) r × Exactly (Multiplies g i xs) r
 product-lawful g i xs r e = (subst (Bounded (2 ^ 56)) (sym e) (product-near g i xs), subst (Exactly (Multiplies g i xs)) (sym e) (product-exactly g i xs))
-
--- along the row, place by place -----------------------------------------------------
-
-abbrev pub sumTo : Grid → ℕ → List ℤ → ℕ → ℤ
-sumTo g i xs n = ∑ n (λ j. matrixOf g i j *ℤ vectorOf xs j)
-
-pub term-fits : (n x : ℤ) → natAbs n ≤ 1048576 → natAbs x ≤ 1073741824 → SFits w64 (n *ℤ x)
-term-fits n x p q = let m = abs-mul-le n x 1048576 1073741824 p q in fits-below (n *ℤ x) (omega arith)
-
-pub sum-fits : (g : Grid) (i j : ℕ) (xs : List ℤ) (s t n x : ℤ) → s ≡ sumTo g i xs j → t ≡ n *ℤ x → ((k : ℕ) → k < j → natAbs (vectorOf xs k) ≤ 1073741824) → j ≤ 64
-    → natAbs n ≤ 1048576 → natAbs x ≤ 1073741824 → SFits w64 (s +ℤ t)
-sum-fits g i j xs s t n x e d near short p q =
-    let m = abs-mul-le n x 1048576 1073741824 p q in
-    let b = sum-near g i j xs near in
-    let bs : natAbs s ≤ j * 2 ^ 50 = rw e b in
-    let bt : natAbs t ≤ 2 ^ 50 = rw d m in
-    let a = abs-add s t in
-    fits-below (s +ℤ t) (omega arith)
-
-pub sum-more : (g : Grid) (i j : ℕ) (xs : List ℤ) (s t n : ℤ) → s ≡ sumTo g i xs j → t ≡ n *ℤ vectorOf xs j → Some n ≡ placeOf g i j → s +ℤ t ≡ sumTo g i xs (j + 1)
-sum-more g i j xs s t n e d p =
-    let v : n ≡ matrixOf g i j = ap (λ (o : Option ℤ). valueOr o (pos 0)) p in
-    let q : ∑ (j + 1) (λ j. matrixOf g i j *ℤ vectorOf xs j) ≡ sumTo g i xs j +ℤ matrixOf g i j *ℤ vectorOf xs j = rw add-one in
-    cc
-
--- one more place that is no blank
-pub some-more : (o : Option ℤ) (n : ℤ) → Some n ≡ o → isSome o ≡ true
-some-more o n e = ap isSome (sym e)
-
-pub none-not : (o : Option ℤ) → None ≡ o → isSome o ≡ true → ⊥
-none-not o e t = false≢true (ap isSome e ∙ t)

@@ -2,7 +2,7 @@
 use Prim.Native.Nat.{ℕ, _<_}
 use mathlib.Core.Bool.{Bool, true, false, cond, _&&_}
 use mathlib.Core.List.{List}
-use mathlib.Core.Path.{_≡_, refl, sym, ap, _∙_}
+use mathlib.Core.Path.{_≡_, refl, sym, ap, subst, _∙_}
 use lib.Dec.{ltb}
 use lib.IntN.{ℤ, pos, _*ℤ_}
 use native.Mathlib.Omega.{arith}
@@ -24,7 +24,7 @@ and-swap false true = refl
 and-swap false false = refl
 
 pub flipped-place : (g : Grid) (i j : ℕ) → placeOf (flipped g) i j ≡ placeOf g j i
-flipped-place g i j = ap (λ (b : Bool). cond b (limited (g .entry j i)) None) (and-swap (ltb i (widthOf g)) (ltb j (heightOf g)))
+flipped-place g i j = ap (λ (b : Bool). cond b (limited (g .cell j i)) None) (and-swap (ltb i (widthOf g)) (ltb j (heightOf g)))
 
 column : (g : Grid) (j : ℕ) (xs : List ℤ) → ∑ (heightOf g) (λ i. matrixOf (flipped g) j i *ℤ vectorOf xs i) ≡ ∑ (heightOf g) (λ i. matrixOf g i j *ℤ vectorOf xs i)
 column g j xs = ∑-cong (heightOf g) (λ i. matrixOf (flipped g) j i *ℤ vectorOf xs i) (λ i. matrixOf g i j *ℤ vectorOf xs i) (λ i l. ap (λ (o : Option ℤ). valueOr o (pos 0) *ℤ vectorOf xs i) (flipped-place g j i))
@@ -60,3 +60,7 @@ swapped g =
         λ m. multiplies-product (flipped g) j xs s (down-row g j xs s m),
       );
     }
+
+-- what an answer that equals the product of the flipped row says of the column
+pub column-exactly : (g : Grid) (j : ℕ) (xs : List ℤ) (r : Option ℤ) → r ≡ productOf (flipped g) j xs → Exactly (MultipliesDown g j xs) r
+column-exactly g j xs r e = subst (Exactly (MultipliesDown g j xs)) (sym e) (swapped g .products j xs)

@@ -14,7 +14,7 @@ use Rattle.duality.specs.Sums.{Vector, Matrix, row}
 pub record Grid : Type 0 where
   pub rows : ℤ
   pub columns : ℤ
-  pub entry : ℕ → ℕ → Option ℤ
+  pub cell : ℕ → ℕ → Option ℤ
 
 -- a size below 0 is 0, and one above 64 is 64
 abbrev pub cut : ℤ → ℕ
@@ -37,7 +37,7 @@ limited None = None
 limited (Some z) = cond (within 1048576 z) (Some z) None
 
 abbrev pub placeOf : Grid → ℕ → ℕ → Option ℤ
-placeOf g i j = cond (ltb i (heightOf g) && ltb j (widthOf g)) (limited (g .entry i j)) None
+placeOf g i j = cond (ltb i (heightOf g) && ltb j (widthOf g)) (limited (g .cell i j)) None
 
 -- a list as a vector, and a grid as a matrix with 0 for a blank
 abbrev pub vectorOf : List ℤ → Vector
@@ -58,9 +58,10 @@ allWithin m xs = every (length xs) (λ j. within m (vectorOf xs j))
 abbrev pub filled : Grid → ℕ → Bool
 filled g i = every (widthOf g) (λ j. isSome (placeOf g i j))
 
--- row i times the list
+-- whether row i can be multiplied with the list
+abbrev pub multipliable : Grid → ℕ → List ℤ → Bool
+multipliable g i xs = ltb i (heightOf g) && eqb (length xs) (widthOf g) && allWithin 1073741824 xs && filled g i
+
+-- the sum of number times list number along row i
 abbrev pub productOf : Grid → ℕ → List ℤ → Option ℤ
-productOf g i xs =
-    cond (ltb i (heightOf g) && eqb (length xs) (widthOf g) && allWithin 1073741824 xs && filled g i)
-    (Some (row (widthOf g) (matrixOf g) (vectorOf xs) i))
-    None
+productOf g i xs = cond (multipliable g i xs) (Some (row (widthOf g) (matrixOf g) (vectorOf xs) i)) None

@@ -7,7 +7,7 @@ use Rattle.table.specs.Grid.{Grid, heightOf, widthOf, placeOf}
 
 -- rows and columns swapped
 abbrev pub flipped : Grid → Grid
-flipped g = record { rows = g .columns; columns = g .rows; entry = λ i j. g .entry j i }
+flipped g = record { rows = g .columns; columns = g .rows; cell = λ i j. g .cell j i }
 
 -- the sum of two numbers, blank where one of them is
 abbrev pub added : Option ℤ → Option ℤ → Option ℤ
@@ -21,5 +21,5 @@ summed g h =
     record {
       rows = pos (min (heightOf g) (heightOf h));
       columns = pos (min (widthOf g) (widthOf h));
-      entry = λ i j. added (placeOf g i j) (placeOf h i j);
+      cell = λ i j. added (placeOf g i j) (placeOf h i j);
     }

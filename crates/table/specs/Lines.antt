@@ -6,4 +6,4 @@ use Rattle.std.specs.declared.option.Option.the-variants.{Some}
 use Rattle.table.specs.Grid.{Grid, vectorOf}
 
 abbrev pub lineGrid : List ℤ → Grid
-lineGrid ns = record { rows = pos 1; columns = pos (length ns); entry = λ i j. Some (vectorOf ns j) }
+lineGrid ns = record { rows = pos 1; columns = pos (length ns); cell = λ i j. Some (vectorOf ns j) }

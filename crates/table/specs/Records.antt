@@ -24,7 +24,7 @@ recorded [] i j = pos 0
 recorded (r ∷ rs) i j = cond (isFor r i j) (r .number) (recorded rs i j)
 
 abbrev pub tripletGrid : ℤ → ℤ → List Record → Grid
-tripletGrid high wide rs = record { rows = high; columns = wide; entry = λ i j. Some (recorded rs i j) }
+tripletGrid high wide rs = record { rows = high; columns = wide; cell = λ i j. Some (recorded rs i j) }
 
 -- a row after the record's number was written at its column, if it is for row i
 abbrev pub Written : List ℤ → Record → ℕ → List ℤ → Type 0

@@ -1,9 +1,12 @@
 //! Layers over tables of any kind.
 ghost use mathlib.Core.Path.{_≡_};
-ghost use Rattle.table.specs.Laws.{Alike};
-ghost use Rattle.table.specs.LayerLaws.{AddedUp, Swapped};
+ghost use Prim.Native.Nat.{_^_};
+ghost use Rattle.table.specs.Grid.{productOf};
+ghost use Rattle.table.specs.Laws.{Alike, Bounded, Exactly};
+ghost use Rattle.table.specs.LayerLaws.{AddedUp, MultipliesDown, Swapped};
 ghost use Rattle.table.specs.Layers.{flipped, summed};
 use crate::interface::Table;
+use crate::lent::LentTable;
 use crate::limits::limit_number;
 
 /// A table with its rows and columns swapped.
@@ -74,4 +77,15 @@ pub impl<T: Table, U: Table> Table for Sum<T, U> as SumTable {
         let b = self.right.place(i, j)?;
         limit_number(a + b)
     }
+}
+
+/// The sum of number times list number down column `j`. It is nothing where the column is outside or holds a blank,
+/// where the list's length isn't the height, and where a list number lies beyond ±1,073,741,824.
+pub fn column_product<T: Table>(table: &T, j: usize, xs: &[i64]) -> Option<i64>
+    ensures value { λ r. ⌜ r ≡ productOf (flipped (T·Table .meant (now (table .entry)))) j (now (xs .entry)) ⌝ }
+    ensures bound { λ r. ⌜ Bounded (2 ^ 56) r ⌝ }
+    ensures exactly { λ r. ⌜ Exactly (MultipliesDown (T·Table .meant (now (table .entry))) j (now (xs .entry))) r ⌝ }
+{
+    let flip = Flip { below: table };
+    flip.product(j, xs)
 }

@@ -4,7 +4,7 @@ ghost use Rattle.std.specs.declared.option.Option.the-variants.{Some};
 ghost use Rattle.table.specs.Grid.{cut, limited};
 
 /// The most rows, and the most columns, that a table has.
-pub const SIZE_LIMIT: i64 = 64;
+pub const SIZE_LIMIT: usize = 64;
 
 /// The largest size of a number at a place.
 pub const PLACE_LIMIT: u64 = 1_048_576;
@@ -18,8 +18,8 @@ pub fn cut_size(size: i64) -> usize
 {
     if size < 0 {
         0
-    } else if size > SIZE_LIMIT {
-        SIZE_LIMIT as usize
+    } else if size > SIZE_LIMIT as i64 {
+        SIZE_LIMIT
     } else {
         size as usize
     }

@@ -2,6 +2,7 @@
 ghost use denote.Ref.{now as held};
 ghost use Rattle.table.specs.Lines.{lineGrid};
 use crate::interface::Table;
+use crate::limits::SIZE_LIMIT;
 use crate::limits::limit_number;
 
 /// A single row of numbers as a table.
@@ -18,7 +19,7 @@ pub(crate) impl<'a> Table for Line<'a> as LineTable {
     }
 
     fn width(&self) -> usize {
-        self.numbers.len().min(64)
+        self.numbers.len().min(SIZE_LIMIT)
     }
 
     fn place(&self, i: usize, j: usize) -> Option<i64> {

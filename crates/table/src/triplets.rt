@@ -6,6 +6,7 @@ ghost use Rattle.table.specs.Grid.{vectorOf};
 ghost use Rattle.table.specs.RecordLaws.{Told};
 ghost use Rattle.table.specs.Records.{isFor, isIndex, recorded, tripletGrid, Written};
 use crate::interface::Table;
+use crate::limits::SIZE_LIMIT;
 use crate::limits::cut_size;
 use crate::limits::limit_number;
 use crate::line::Line;
@@ -69,10 +70,10 @@ fn first_number(records: &[Record], i: usize, j: usize) -> i64
 }
 
 /// The numbers in row `i`, in one pass: from the last record to the first, so that the first for a place stays.
-fn row_numbers(records: &[Record], i: usize) -> [i64; 64]
+fn row_numbers(records: &[Record], i: usize) -> [i64; SIZE_LIMIT]
     ensures { λ r. ⌜ ((j : ℕ) → j < 64 → vectorOf r j ≡ recorded (now (records .entry)) i j) ⌝ }
 {
-    let mut row = [0; 64];
+    let mut row = [0; SIZE_LIMIT];
     for k in (0..records.len()).rev() {
         records[k].put_into(&mut row, i);
     }

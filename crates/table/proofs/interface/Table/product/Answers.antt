@@ -14,7 +14,8 @@ use Rattle.std.specs.declared.option.Option.{Option}
 use Rattle.std.specs.declared.option.Option.the-variants.{Some, None}
 use Rattle.table.specs.Grid.{placeOf, productOf, vectorOf, widthOf}
 use Rattle.table.specs.Laws.{Multiplies}
-use Rattle.table.proofs.Products.{sumTo, product-none, product-lawful, multiplies-product, term-fits, sum-fits, sum-more, some-more, none-not}
+use Rattle.table.proofs.Along.{sumTo, term-fits, sum-fits, sum-more, some-more, none-not}
+use Rattle.table.proofs.Products.{product-none, product-lawful, multiplies-product}
 use Rattle.table.proofs.Integers.{mul-held}
 use Rattle.table.proofs.interface.Table.product.Needs as need
 

@@ -4,7 +4,7 @@ use mathlib.Core.Bool.{true}
 use lib.IntN.{natAbs}
 use Rattle.std.specs.Options.{isSome}
 use Rattle.table.specs.Grid.{placeOf, vectorOf}
-use Rattle.table.proofs.Products.{sumTo}
+use Rattle.table.proofs.Along.{sumTo}
 use Rattle.table.proofs.interface.Table.product.Given as given
 
 -- of the places passed: their sum, that none was blank, and that the list kept to its limit
