@@ -1,8 +1,7 @@
 -- Grids that agree in sizes and places agree in products too.
 use Prim.Native.Nat.{ℕ, _<_}
-use mathlib.Core.Bool.{true}
 use mathlib.Core.List.{List}
-use mathlib.Core.Path.{_≡_, refl, sym, ap, subst, _∙_}
+use mathlib.Core.Path.{_≡_, refl, sym, ap, _∙_}
 use lib.IntN.{ℤ, pos, _*ℤ_}
 use native.Mathlib.Omega.{arith}
 use Rattle.std.specs.Options.{isSome, valueOr}

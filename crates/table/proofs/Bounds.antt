@@ -1,20 +1,20 @@
 -- Every answer keeps to its limit.
-use Prim.Native.Nat.{ℕ, zero, suc, min, _+_, _*_, _^_, _<_, _≤_}
-use mathlib.Core.Bool.{Bool, true, false, cond, _&&_}
+use Prim.Native.Nat.{ℕ, _*_, _^_, _<_, _≤_}
+use mathlib.Core.Bool.{Bool, true, _&&_}
 use mathlib.Core.List.{List}
 use mathlib.Core.Path.{_≡_, refl}
-use lib.Dec.{ltb, eqb}
+use lib.Dec.{ltb}
 use lib.IntN.{ℤ, pos, negsuc, natAbs, _*ℤ_}
 use lib.ListN.{length}
 use native.Mathlib.Omega.{arith}
-use Rattle.std.proofs.shelf.Tests.{and-parts, leb-true, cond-both, eqb-true}
+use Rattle.std.proofs.shelf.Tests.{leb-true, cond-both}
 use Rattle.std.proofs.shelf.Ways.{decides-below-and}
 use Rattle.std.specs.Orderings.{Decides}
 use Rattle.std.specs.Options.{valueOr}
 use Rattle.std.specs.declared.option.Option.{Option}
 use Rattle.std.specs.declared.option.Option.the-variants.{Some, None}
 use Rattle.duality.specs.Sums.{∑, row}
-use Rattle.table.specs.Grid.{Grid, cut, heightOf, widthOf, within, limited, placeOf, vectorOf, matrixOf, every, allWithin, filled, productOf}
+use Rattle.table.specs.Grid.{Grid, cut, heightOf, widthOf, within, limited, placeOf, vectorOf, matrixOf, every, allWithin}
 use Rattle.table.specs.Laws.{Bounded}
 use Rattle.table.proofs.Integers.{abs-mul-le, abs-sum}
 

@@ -14,7 +14,7 @@ use Rattle.std.specs.Orderings.{Decides}
 use Rattle.std.specs.shelf.Lists.{All}
 use Rattle.std.specs.declared.option.Option.the-variants.{Some}
 use Rattle.table.specs.declared.triplets.Record.{Record}
-use Rattle.table.specs.Grid.{cut, heightOf, widthOf, limited, vectorOf, productOf}
+use Rattle.table.specs.Grid.{cut, widthOf, limited, vectorOf, productOf}
 use Rattle.table.specs.Lines.{lineGrid}
 use Rattle.table.specs.Records.{isIndex, isFor, recorded, tripletGrid, Written}
 use Rattle.table.specs.RecordLaws.{For, NotFor, Told}

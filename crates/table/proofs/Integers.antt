@@ -30,10 +30,7 @@ pub fits-below : (z : ℤ) → natAbs z ≤ 2 ^ 62 → SFits w64 z
 fits-below (pos n) h = record { sfits = omega arith }
 fits-below (negsuc n) h = record { sfits = omega arith }
 
--- a sum and a product, as the code holds them
-pub add-held : (a b : ℤ) → SFits w64 a → SFits w64 b → SFits w64 (a +ℤ b) → toZ w64 (ofZ w64 (toZ w64 (ofZ w64 a) +ℤ toZ w64 (ofZ w64 b))) ≡ a +ℤ b
-add-held a b fa fb fab = simp toZ-ofZ
-
+-- a product, as the code holds it
 pub mul-held : (a b : ℤ) → SFits w64 a → SFits w64 b → SFits w64 (a *ℤ b) → toZ w64 (ofZ w64 (toZ w64 (ofZ w64 a) *ℤ toZ w64 (ofZ w64 b))) ≡ a *ℤ b
 mul-held a b fa fb fab = simp toZ-ofZ
 

@@ -1,10 +1,10 @@
 -- Where a place is answered, and what a layer's place is.
-use Prim.Native.Nat.{ℕ, min, _<_, _≤_}
+use Prim.Native.Nat.{ℕ, _<_, _≤_}
 use mathlib.Core.Bool.{_&&_}
 use mathlib.Core.Logic.{_⊎_, inl, inr, ⊎-elim}
-use mathlib.Core.Path.{_≡_, refl, sym, ap, subst, _∙_}
+use mathlib.Core.Path.{_≡_, refl, sym, ap, _∙_}
 use lib.Dec.{ltb}
-use lib.IntN.{ℤ, _+ℤ_}
+use lib.IntN.{ℤ}
 use native.Mathlib.Omega.{arith}
 use Rattle.std.proofs.shelf.Tests.{and-from, cond-true, cond-both, cases-lt, lt-ltb}
 use Rattle.std.proofs.shelf.Ways.{decides-and, decides-ltb}
@@ -12,9 +12,8 @@ use Rattle.std.specs.Orderings.{Decides}
 use Rattle.std.specs.declared.option.Option.{Option}
 use Rattle.std.specs.declared.option.Option.the-variants.{Some, None}
 use Rattle.table.specs.Grid.{Grid, heightOf, widthOf, limited, placeOf}
-use Rattle.table.specs.Layers.{added, flipped, summed}
-use Rattle.table.specs.Laws.{Bounded}
-use Rattle.table.proofs.Bounds.{cut-below, place-near}
+use Rattle.table.specs.Layers.{added, summed}
+use Rattle.table.proofs.Bounds.{cut-below}
 
 abbrev Inside : Grid → ℕ → ℕ → Type 0
 Inside g i j = (i < heightOf g) × (j < widthOf g)
@@ -55,15 +54,3 @@ summed-place g h i j = ⊎-elim (λ a. ⊎-elim (both a) past-right (cases-insid
     past-right out =
         place-outside (summed g h) i j (λ p. let h = p .0 in let w = p .1 in out (omega arith, omega arith))
         ∙ sym (ap (λ (o : Option ℤ). limited (added (placeOf g i j) o)) (place-outside h i j out) ∙ ap limited (added-none (placeOf g i j)))
-
--- a sum's place where both are numbers
-pub summed-at : (g h : Grid) (i j : ℕ) (a b z : ℤ) → Some a ≡ placeOf g i j → Some b ≡ placeOf h i j → z ≡ a +ℤ b → limited (Some z) ≡ placeOf (summed g h) i j
-summed-at g h i j a b z p q e =
-    let s = summed-place g h i j in
-    let t : limited (added (Some a) (Some b)) ≡ limited (added (placeOf g i j) (placeOf h i j)) =
-    ap (λ (o : Option ℤ). limited (added o (Some b))) p ∙ ap (λ (o : Option ℤ). limited (added (placeOf g i j) o)) q in
-    ap (λ (x : ℤ). limited (Some x)) e ∙ t ∙ sym s
-
--- what an answer that equals the place owes besides
-pub place-lawful : (g : Grid) (i j : ℕ) (r : Option ℤ) → r ≡ placeOf g i j → Bounded 1048576 r
-place-lawful g i j r e = subst (Bounded 1048576) (sym e) (place-near g i j)

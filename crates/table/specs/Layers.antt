@@ -1,5 +1,5 @@
 -- What the layers over other tables mean.
-use Prim.Native.Nat.{ℕ, min}
+use Prim.Native.Nat.{min}
 use lib.IntN.{ℤ, pos, _+ℤ_}
 use Rattle.std.specs.declared.option.Option.{Option}
 use Rattle.std.specs.declared.option.Option.the-variants.{Some, None}

@@ -1,10 +1,10 @@
 //! Layers over tables of any kind.
 ghost use mathlib.Core.Path.{_≡_};
 ghost use Prim.Native.Nat.{_^_};
-ghost use Rattle.table.specs.Grid.{productOf};
+ghost use Rattle.table.specs.Grid.{limited, productOf};
 ghost use Rattle.table.specs.Laws.{Alike, Bounded, Exactly};
 ghost use Rattle.table.specs.LayerLaws.{AddedUp, MultipliesDown, Swapped};
-ghost use Rattle.table.specs.Layers.{flipped, summed};
+ghost use Rattle.table.specs.Layers.{added, flipped, summed};
 use crate::interface::Table;
 use crate::lent::LentTable;
 use crate::limits::limit_number;
@@ -61,6 +61,16 @@ impl<T: Table, U: Table> Sum<T, U> {
     }
 }
 
+/// The sum of two numbers; a blank where one of them is, and where the sum lies beyond the limit of a place.
+fn add_numbers(a: Option<i64>, b: Option<i64>) -> Option<i64>
+    requires near { ⌜ Bounded 1048576 a ⌝ ∗ ⌜ Bounded 1048576 b ⌝ }
+    ensures { λ r. ⌜ r ≡ limited (added a b) ⌝ }
+{
+    let a = a?;
+    let b = b?;
+    limit_number(a + b)
+}
+
 pub impl<T: Table, U: Table> Table for Sum<T, U> as SumTable {
     ghost meant = { λ s. summed (T·Table .meant (s .left)) (U·Table .meant (s .right)) };
 
@@ -73,9 +83,7 @@ pub impl<T: Table, U: Table> Table for Sum<T, U> as SumTable {
     }
 
     fn place(&self, i: usize, j: usize) -> Option<i64> {
-        let a = self.left.place(i, j)?;
-        let b = self.right.place(i, j)?;
-        limit_number(a + b)
+        add_numbers(self.left.place(i, j), self.right.place(i, j))
     }
 }
 

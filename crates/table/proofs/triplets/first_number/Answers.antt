@@ -1,11 +1,10 @@
-use mathlib.Core.Path.{_≡_, sym, _∙_}
-use lib.IntN.{ℤ, pos}
+use mathlib.Core.Path.{sym, _∙_}
+use lib.IntN.{pos}
 use lib.ListN.{getD}
 use mir.Val.{SFits}
 use mir.Syntax.{w64}
 use borrow.Author.Needs.{needs}
 use Rattle.std.proofs.shelf.Signed.{toZ-ofZ}
-use Rattle.table.specs.Records.{recorded}
 use Rattle.table.proofs.Firsts.{recorded-here, recorded-past, recorded-end}
 use Rattle.table.proofs.triplets.first_number.Needs as need
 

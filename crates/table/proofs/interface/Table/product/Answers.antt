@@ -1,8 +1,8 @@
-use Prim.Native.Nat.{ℕ, _<_, _≤_}
-use mathlib.Core.Path.{_≡_, refl, ap, sym, subst, _∙_}
+use Prim.Native.Nat.{_≤_}
+use mathlib.Core.Path.{_≡_, ap, sym, _∙_}
 use mathlib.Core.Bool.{true}
-use lib.IntN.{ℤ, pos, natAbs, _*ℤ_, _+ℤ_}
-use lib.ListN.{getD, length}
+use lib.IntN.{pos, natAbs}
+use lib.ListN.{getD}
 use mir.Val.{SFits}
 use mir.Syntax.{w64}
 use native.Mathlib.Omega.{arith}
@@ -10,8 +10,7 @@ use borrow.Author.Count.{below-more}
 use borrow.Author.Needs.{needs}
 use Rattle.std.proofs.shelf.Signed.{toZ-ofZ}
 use Rattle.std.specs.Options.{isSome}
-use Rattle.std.specs.declared.option.Option.{Option}
-use Rattle.std.specs.declared.option.Option.the-variants.{Some, None}
+use Rattle.std.specs.declared.option.Option.the-variants.{None}
 use Rattle.table.specs.Grid.{placeOf, productOf, vectorOf, widthOf}
 use Rattle.table.specs.Laws.{Multiplies}
 use Rattle.table.proofs.Along.{sumTo, term-fits, sum-fits, sum-more, some-more, none-not}

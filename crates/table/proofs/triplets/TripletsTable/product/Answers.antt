@@ -1,7 +1,7 @@
 use Prim.Native.Nat.{_-_, _<_}
 use mathlib.Core.Path.{_≡_, _∙_}
 use lib.IntN.{pos}
-use lib.ListN.{getD, length, take, length-take}
+use lib.ListN.{length, take, length-take}
 use lib.Seq.{getD-take}
 use native.Mathlib.Omega.{arith}
 use borrow.Author.Needs.{needs}
