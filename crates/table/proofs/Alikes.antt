@@ -13,6 +13,12 @@ use Rattle.table.specs.Grid.{Grid, heightOf, widthOf, placeOf, matrixOf, vecto
 use Rattle.table.specs.Laws.{Multiplies, Alike}
 use Rattle.table.proofs.Products.{multiplies-product, product-multiplies, product-none}
 
+pub same-sum : (o p : ℕ → Option ℤ) (xs : List ℤ) (n : ℕ) → ((j : ℕ) → j < n → o j ≡ p j)
+    → ∑ n (λ j. valueOr (o j) (pos 0) *ℤ vectorOf xs j) ≡ ∑ n (λ j. valueOr (p j) (pos 0) *ℤ vectorOf xs j)
+same-sum o p xs n same =
+    ∑-cong n (λ j. valueOr (o j) (pos 0) *ℤ vectorOf xs j) (λ j. valueOr (p j) (pos 0) *ℤ vectorOf xs j)
+    (λ j l. ap (λ (v : Option ℤ). valueOr v (pos 0) *ℤ vectorOf xs j) (same j l))
+
 multiplies-row : (g h : Grid) (i k : ℕ) (xs : List ℤ) (s : ℤ) → (i < heightOf g → k < heightOf h) → widthOf g ≡ widthOf h
     → ((j : ℕ) → j < widthOf g → placeOf g i j ≡ placeOf h k j) → Multiplies g i xs s → Multiplies h k xs s
 multiplies-row g h i k xs s inside wide places m =
@@ -23,7 +29,7 @@ multiplies-row g h i k xs s inside wide places m =
       present = λ j l. let n : j < widthOf g = omega arith in ap isSome (sym (places j n)) ∙ m .present j n;
       total =
           m .total
-          ∙ ∑-cong (widthOf g) (λ j. matrixOf g i j *ℤ vectorOf xs j) (λ j. matrixOf h k j *ℤ vectorOf xs j) (λ j l. ap (λ (o : Option ℤ). valueOr o (pos 0) *ℤ vectorOf xs j) (places j l))
+          ∙ same-sum (placeOf g i) (placeOf h k) xs (widthOf g) places
           ∙ ap (λ (n : ℕ). ∑ n (λ j. matrixOf h k j *ℤ vectorOf xs j)) wide;
     }
 

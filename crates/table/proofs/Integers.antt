@@ -1,6 +1,6 @@
 -- The size of a sum and of a product of integers, and what fits 64 bits.
 use Prim.Native.Nat.{ℕ, zero, suc, _+_, _*_, _^_, _<_, _≤_}
-use mathlib.Core.Path.{_≡_, refl}
+use mathlib.Core.Path.{_≡_, refl, ap, _∙_}
 use lib.IntN.{ℤ, pos, negsuc, natAbs, negℤ, _+ℤ_, _*ℤ_}
 use mir.Val.{SFits, toZ, ofZ}
 use mir.Syntax.{w64}
@@ -30,7 +30,10 @@ pub fits-below : (z : ℤ) → natAbs z ≤ 2 ^ 62 → SFits w64 z
 fits-below (pos n) h = record { sfits = omega arith }
 fits-below (negsuc n) h = record { sfits = omega arith }
 
--- a product, as the code holds it
+-- the size of a number, and a product, as the code holds them
+pub abs-held : (a : ℤ) (n m : ℕ) → SFits w64 a → n ≡ natAbs (toZ w64 (ofZ w64 a)) → n ≤ m → natAbs a ≤ m
+abs-held a n m fits e h = let d : n ≡ natAbs a = e ∙ ap natAbs (toZ-ofZ w64 a fits) in omega arith
+
 pub mul-held : (a b : ℤ) → SFits w64 a → SFits w64 b → SFits w64 (a *ℤ b) → toZ w64 (ofZ w64 (toZ w64 (ofZ w64 a) *ℤ toZ w64 (ofZ w64 b))) ≡ a *ℤ b
 mul-held a b fa fb fab = simp toZ-ofZ
 

@@ -4,16 +4,16 @@ use mathlib.Core.Bool.{Bool, true, false, cond, _&&_}
 use mathlib.Core.List.{List}
 use mathlib.Core.Path.{_≡_, refl, sym, ap, subst, _∙_}
 use lib.Dec.{ltb}
-use lib.IntN.{ℤ, pos, _*ℤ_}
-use Rattle.std.specs.Options.{isSome, valueOr}
+use lib.IntN.{ℤ, _*ℤ_}
+use Rattle.std.specs.Options.{isSome}
 use Rattle.std.specs.declared.option.Option.{Option}
 use Rattle.std.specs.declared.option.Option.the-variants.{None}
 use Rattle.duality.specs.Sums.{∑}
-use Rattle.duality.proofs.Sums.{∑-cong}
 use Rattle.table.specs.Grid.{Grid, heightOf, widthOf, limited, placeOf, matrixOf, vectorOf, productOf}
 use Rattle.table.specs.Laws.{Exactly, Multiplies}
 use Rattle.table.specs.Layers.{flipped}
 use Rattle.table.specs.LayerLaws.{MultipliesDown, Swapped}
+use Rattle.table.proofs.Alikes.{same-sum}
 use Rattle.table.proofs.Products.{multiplies-product, product-multiplies}
 
 and-swap : (x y : Bool) → (x && y) ≡ (y && x)
@@ -26,7 +26,7 @@ pub flipped-place : (g : Grid) (i j : ℕ) → placeOf (flipped g) i j ≡ place
 flipped-place g i j = ap (λ (b : Bool). cond b (limited (g .cell j i)) None) (and-swap (ltb i (widthOf g)) (ltb j (heightOf g)))
 
 column : (g : Grid) (j : ℕ) (xs : List ℤ) → ∑ (heightOf g) (λ i. matrixOf (flipped g) j i *ℤ vectorOf xs i) ≡ ∑ (heightOf g) (λ i. matrixOf g i j *ℤ vectorOf xs i)
-column g j xs = ∑-cong (heightOf g) (λ i. matrixOf (flipped g) j i *ℤ vectorOf xs i) (λ i. matrixOf g i j *ℤ vectorOf xs i) (λ i l. ap (λ (o : Option ℤ). valueOr o (pos 0) *ℤ vectorOf xs i) (flipped-place g j i))
+column g j xs = same-sum (λ i. placeOf (flipped g) j i) (λ i. placeOf g i j) xs (heightOf g) (λ i _. flipped-place g j i)
 
 row-down : (g : Grid) (j : ℕ) (xs : List ℤ) (s : ℤ) → Multiplies (flipped g) j xs s → MultipliesDown g j xs s
 row-down g j xs s m =

@@ -15,7 +15,7 @@ use Rattle.table.specs.Grid.{placeOf, productOf, vectorOf, widthOf}
 use Rattle.table.specs.Laws.{Multiplies}
 use Rattle.table.proofs.Along.{sumTo, term-fits, sum-fits, sum-more, some-more, none-not}
 use Rattle.table.proofs.Products.{product-none, product-lawful, multiplies-product}
-use Rattle.table.proofs.Integers.{mul-held}
+use Rattle.table.proofs.Integers.{abs-held, mul-held}
 use Rattle.table.proofs.interface.Table.product.Needs as need
 
 pub returns-then-unsigned-abs-gt-FACTOR-LIMIT : need.returns-then-unsigned-abs-gt-FACTOR-LIMIT
@@ -43,15 +43,14 @@ pub mul-sum : need.mul-sum
 mul-sum g c =
     let fn : SFits w64 (c .in-Continue-number .number) = search needs in
     let fx : SFits w64 (getD (c .args .xs .now) (c .loop-j .j) (pos 0)) = search needs in
-    let x : c .unsigned-abs .result ≡ natAbs (getD (c .args .xs .now) (c .loop-j .j) (pos 0)) = c .unsigned-abs .ensures .value ∙ ap natAbs (toZ-ofZ w64 _ fx) in
-    simp toZ-ofZ (term-fits (c .in-Continue-number .number) (getD (c .args .xs .now) (c .loop-j .j) (pos 0)) (c .in-Continue-number .ensures tt .bound) (omega arith))
+    let m = abs-held (getD (c .args .xs .now) (c .loop-j .j) (pos 0)) _ 1073741824 fx (c .unsigned-abs .ensures .value) (c .if-unsigned-abs-gt-FACTOR-LIMIT .left) in
+    simp toZ-ofZ (term-fits (c .in-Continue-number .number) (getD (c .args .xs .now) (c .loop-j .j) (pos 0)) (c .in-Continue-number .ensures tt .bound) m)
 
 pub add-sum : need.add-sum
 add-sum g c =
     let fn : SFits w64 (c .in-Continue-number .number) = search needs in
     let fx : SFits w64 (getD (c .args .xs .now) (c .loop-j .j) (pos 0)) = search needs in
-    let x : c .unsigned-abs .result ≡ natAbs (getD (c .args .xs .now) (c .loop-j .j) (pos 0)) = c .unsigned-abs .ensures .value ∙ ap natAbs (toZ-ofZ w64 _ fx) in
-    let m : natAbs (getD (c .args .xs .now) (c .loop-j .j) (pos 0)) ≤ 1073741824 = omega arith in
+    let m = abs-held (getD (c .args .xs .now) (c .loop-j .j) (pos 0)) _ 1073741824 fx (c .unsigned-abs .ensures .value) (c .if-unsigned-abs-gt-FACTOR-LIMIT .left) in
     let f = term-fits (c .in-Continue-number .number) (getD (c .args .xs .now) (c .loop-j .j) (pos 0)) (c .in-Continue-number .ensures tt .bound) m in
     sum-fits (g .Self·Table .meant (c .args .self .now)) (c .args .i) (c .loop-j .j) (c .args .xs .now) _ _ (c .in-Continue-number .number) (getD (c .args .xs .now) (c .loop-j .j) (pos 0))
     (c .loop-j .inv .0) (mul-held _ _ fn fx f) (c .loop-j .inv .2) (omega arith) (c .in-Continue-number .ensures tt .bound) m
@@ -61,12 +60,11 @@ loop-j-again g c =
     let grid = g .Self·Table .meant (c .args .self .now) in
     let fn : SFits w64 (c .in-Continue-number .number) = search needs in
     let fx : SFits w64 (getD (c .args .xs .now) (c .loop-j .j) (pos 0)) = search needs in
-    let x : c .unsigned-abs .result ≡ natAbs (getD (c .args .xs .now) (c .loop-j .j) (pos 0)) = c .unsigned-abs .ensures .value ∙ ap natAbs (toZ-ofZ w64 _ fx) in
-    let m : natAbs (getD (c .args .xs .now) (c .loop-j .j) (pos 0)) ≤ 1073741824 = omega arith in
+    let m = abs-held (getD (c .args .xs .now) (c .loop-j .j) (pos 0)) _ 1073741824 fx (c .unsigned-abs .ensures .value) (c .if-unsigned-abs-gt-FACTOR-LIMIT .left) in
     let f = term-fits (c .in-Continue-number .number) (getD (c .args .xs .now) (c .loop-j .j) (pos 0)) (c .in-Continue-number .ensures tt .bound) m in
     let here = c .in-Continue-number .ensures tt .value in (
       toZ-ofZ w64 _ (add-sum g c) ∙ sum-more grid (c .args .i) (c .loop-j .j) (c .args .xs .now) _ _ (c .in-Continue-number .number) (c .loop-j .inv .0) (mul-held _ _ fn fx f) here,
-      below-more (λ k. isSome (placeOf grid (c .args .i) k) ≡ true) _ (c .loop-j .inv .1) (some-more _ _ here),
+      below-more (λ k. isSome (placeOf grid (c .args .i) k) ≡ true) _ (c .loop-j .inv .1) (some-more (placeOf grid (c .args .i) (c .loop-j .j)) _ here),
       below-more (λ k. natAbs (vectorOf (c .args .xs .now) k) ≤ 1073741824) _ (c .loop-j .inv .2) m,
     )
 
