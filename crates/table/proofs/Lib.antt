@@ -1,0 +1,9 @@
+pub mod Integers
+pub mod Bounds
+pub mod Places
+pub mod Products
+pub mod Along
+pub mod Alikes
+pub mod Firsts
+pub mod Swaps
+pub mod Additions
