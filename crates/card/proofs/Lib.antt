@@ -3,3 +3,4 @@ pub mod Whole
 pub mod Laying
 pub mod Passing
 pub mod Filling
+pub mod Holding

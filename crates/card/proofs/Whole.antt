@@ -20,7 +20,7 @@ use Rattle.block.proofs.RoundTrip.{then-ok, cond-ok, passed, block-back, length
 use Rattle.section.specs.declared.kind.Kind.{Kind}
 use Rattle.section.specs.declared.kind.Kind.the-variants.{Head, Curvature, Rows, Costs, Bounds, Limits, Slip}
 use Rattle.section.specs.Kinds.{letterOf}
-use Rattle.section.specs.Layout.{blocksFor, countOf, firstOf, blocksIn}
+use Rattle.section.specs.Layout.{InRange, blocksFor, countOf, firstOf, blocksIn}
 use Rattle.card.specs.Faults.{nOf, mOf, inSize, sizeCheck, headCheck, lengthCheck, fullCheck, runCheck, sectionCheck, sectionsCheck, cardCheck}
 use Rattle.card.specs.Cards.{laid, sectionOf, headOf, cardOf}
 use Rattle.section.specs.Numbers.{numbersFrom, numbersIn}
@@ -38,6 +38,65 @@ take-two xs m n =
 size-is : (low : ℕ) (z : ℤ) → leZ (pos low) z ≡ true → pos (natAbs z) ≡ z
 size-is low (pos n) h = refl
 size-is low (negsuc n) h = let z : _≡_ {A = ℕ} 0 1 = cc in absurd (omega arith)
+
+-- a head that passes, and the sizes that it gives
+pub record Sized (card : List ℕ) : Type 0 where
+  pub pass : blockCheck (blockAt card 0) 72 0 2 ≡ Ok tt
+  pub ropes : pos (nOf card) ≡ num card 4
+  pub rows : pos (mOf card) ≡ num card 8
+  pub range : InRange (nOf card) (mOf card)
+
+-- a card that passes
+pub record Sound (card : List ℕ) : Type 0 where
+  pub enough : 512 ≤ length card
+  pub head : headCheck card ≡ Ok tt
+  pub sizes : Sized card
+  pub full : length card ≡ blocksIn (nOf card) (mOf card) * 512
+  pub sections : sectionsCheck card (nOf card) (mOf card) ≡ Ok tt
+
+module _ (card : List ℕ) where
+  -- what a head that passes says of the sizes
+  sized : headCheck card ≡ Ok tt → Sized card
+  sized ok =
+      let h : List ℕ = blockAt card 0 in
+      let s = then-ok (sumCheck h 0) (andThen (nameCheck h 72 0) (andThen (sizeCheck card) (spareCheck h 0 2))) ok in
+      let n = then-ok (nameCheck h 72 0) (andThen (sizeCheck card) (spareCheck h 0 2)) (s .1) in
+      let z = then-ok (sizeCheck card) (spareCheck h 0 2) (n .1) in
+      let t = cond-ok (inSize (num card 4) (num card 8)) (Ok tt) (Fault.Sizes 0) (z .0) in
+      let p = and-parts (leZ (pos 1) (num card 4) && leZ (num card 4) (pos 16)) (leZ (pos 0) (num card 8) && leZ (num card 8) (pos 32)) (t .0) in
+      let q = and-parts (leZ (pos 1) (num card 4)) (leZ (num card 4) (pos 16)) (p .0) in
+      let r = and-parts (leZ (pos 0) (num card 8)) (leZ (num card 8) (pos 32)) (p .1) in
+      let a = s .0 in
+      let b = n .0 in
+      let c = z .1 in
+      let ropes : pos (nOf card) ≡ num card 4 = size-is 1 (num card 4) (q .0) in
+      let rows : pos (mOf card) ≡ num card 8 = size-is 0 (num card 8) (r .0) in
+      record
+        { pass = rw (a, b, c)
+        ; ropes = ropes
+        ; rows = rows
+        ; range = record
+            { some = leb-true 1 (nOf card) (ap (leZ (pos 1)) ropes ∙ q .0)
+            ; few = leb-true (nOf card) 16 (ap (λ z. leZ z (pos 16)) ropes ∙ q .1)
+            ; short = leb-true (mOf card) 32 (ap (λ z. leZ z (pos 32)) rows ∙ r .1) } }
+
+  -- what a card that passes says of its length and its parts
+  pub sound : cardCheck card ≡ Ok tt → Sound card
+  sound ok =
+      let n : ℕ = nOf card in
+      let m : ℕ = mOf card in
+      let a = then-ok (lengthCheck (length card)) (andThen (headCheck card) (andThen (fullCheck (length card) n m) (sectionsCheck card n m))) ok in
+      let b = then-ok (headCheck card) (andThen (fullCheck (length card) n m) (sectionsCheck card n m)) (a .1) in
+      let c = then-ok (fullCheck (length card) n m) (sectionsCheck card n m) (b .1) in
+      let l = cond-ok (leb 512 (length card) && (leb (length card) 7680 && eqb (length card % 512) 0)) (Ok tt) (Fault.Length (length card)) (a .0) in
+      let lp = and-parts (leb 512 (length card)) (leb (length card) 7680 && eqb (length card % 512) 0) (l .0) in
+      let f = cond-ok (eqb (length card) (blocksIn n m * 512)) (Ok tt) (Fault.Length (length card)) (c .0) in
+      record
+        { enough = leb-true 512 (length card) (lp .0)
+        ; head = b .0
+        ; sizes = sized (b .0)
+        ; full = eqb-true (length card) (blocksIn n m * 512) (f .0)
+        ; sections = c .1 }
 
 module _ (card : List ℕ) (small : (k : ℕ) → getD card k 0 < 256) where
   small-at : (p k : ℕ) → getD (take 512 (drop p card)) k 0 < 256
@@ -122,35 +181,17 @@ module _ (card : List ℕ) (small : (k : ℕ) → getD card k 0 < 256) where
   unfolding numbersOf
   head-laid long ok =
       let h : List ℕ = blockAt card 0 in
-      let s = then-ok (sumCheck h 0) (andThen (nameCheck h 72 0) (andThen (sizeCheck card) (spareCheck h 0 2))) ok in
-      let n = then-ok (nameCheck h 72 0) (andThen (sizeCheck card) (spareCheck h 0 2)) (s .1) in
-      let z = then-ok (sizeCheck card) (spareCheck h 0 2) (n .1) in
-      let t = cond-ok (inSize (num card 4) (num card 8)) (Ok tt) (Fault.Sizes 0) (z .0) in
-      let p = and-parts (leZ (pos 1) (num card 4) && leZ (num card 4) (pos 16)) (leZ (pos 0) (num card 8) && leZ (num card 8) (pos 32)) (t .0) in
-      let q = and-parts (leZ (pos 1) (num card 4)) (leZ (num card 4) (pos 16)) (p .0) in
-      let r = and-parts (leZ (pos 0) (num card 8)) (leZ (num card 8) (pos 32)) (p .1) in
-      let a = s .0 in
-      let b = n .0 in
-      let c = z .1 in
-      let pass : blockCheck h 72 0 2 ≡ Ok tt = rw (a, b, c) in
+      let s = sized card ok in
       let whole : length h ≡ 512 = simp length-take (omega arith) in
-      let first : num h 4 ≡ pos (nOf card) = num-of card 512 0 4 4 (omega arith) refl ∙ sym (size-is 1 (num card 4) (q .0)) in
-      let second : num h 8 ≡ pos (mOf card) = num-of card 512 0 8 8 (omega arith) refl ∙ sym (size-is 0 (num card 8) (r .0)) in
-      block-back h (small-at 0) whole 72 0 2 (omega arith) (passed h 72 0 2 pass)
+      let first : num h 4 ≡ pos (nOf card) = num-of card 512 0 4 4 (omega arith) refl ∙ sym (s .ropes) in
+      let second : num h 8 ≡ pos (mOf card) = num-of card 512 0 8 8 (omega arith) refl ∙ sym (s .rows) in
+      block-back h (small-at 0) whole 72 0 2 (omega arith) (passed h 72 0 2 (s .pass))
       ∙ (ap (λ x. blockOf 72 0 (x ∷ num h 8 ∷ [])) first ∙ ap (λ x. blockOf 72 0 (pos (nOf card) ∷ x ∷ [])) second)
 
   pub card-back : cardCheck card ≡ Ok tt → card ≡ cardOf (nOf card) (mOf card) (numbersIn card (nOf card) (mOf card))
   unfolding cardOf
   card-back ok =
-      let n : ℕ = nOf card in
-      let m : ℕ = mOf card in
-      let a = then-ok (lengthCheck (length card)) (andThen (headCheck card) (andThen (fullCheck (length card) n m) (sectionsCheck card n m))) ok in
-      let b = then-ok (headCheck card) (andThen (fullCheck (length card) n m) (sectionsCheck card n m)) (a .1) in
-      let c = then-ok (fullCheck (length card) n m) (sectionsCheck card n m) (b .1) in
-      let l = cond-ok (leb 512 (length card) && (leb (length card) 7680 && eqb (length card % 512) 0)) (Ok tt) (Fault.Length (length card)) (a .0) in
-      let lp = and-parts (leb 512 (length card)) (leb (length card) 7680 && eqb (length card % 512) 0) (l .0) in
-      let f = cond-ok (eqb (length card) (blocksIn n m * 512)) (Ok tt) (Fault.Length (length card)) (c .0) in
-      let enough : 512 ≤ length card = leb-true 512 (length card) (lp .0) in
+      let s = sound card ok in
       sym (take-append-drop 512 card)
-      ∙ (ap (λ t. t ++ drop 512 card) (head-laid enough (b .0))
-      ∙ ap (λ t. headOf n m ++ t) (sections-laid n m (eqb-true (length card) (blocksIn n m * 512) (f .0)) (c .1)))
+      ∙ (ap (λ t. t ++ drop 512 card) (head-laid (s .enough) (s .head))
+      ∙ ap (λ t. headOf (nOf card) (mOf card) ++ t) (sections-laid (nOf card) (mOf card) (s .full) (s .sections)))

@@ -2,3 +2,4 @@ pub mod Faults
 pub mod Cards
 pub mod Contents
 pub mod Laws
+pub mod Grids

@@ -2,6 +2,8 @@
 
 mod checks;
 mod contents;
+mod table;
+mod tables;
 mod tried;
 mod writes;
 
@@ -13,4 +15,6 @@ pub use contents::Contents;
 pub use section::Kind;
 pub use section::Section;
 pub use section::Sizes;
+pub use table::CardTable;
+pub use tables::CardTableTable;
 pub use tried::tried_head_sum;

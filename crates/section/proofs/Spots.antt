@@ -14,7 +14,7 @@ use Rattle.std.specs.declared.option.Option.the-variants.{Some, None}
 use Rattle.std.proofs.shelf.Lists.{getD-take, getD-drop, getD-append-left, getD-append-right, length-take, length-drop}
 use Rattle.std.proofs.shelf.Counted.{getD-map-counting}
 use Rattle.std.proofs.shelf.Tests.{cases-lt, le-leb}
-use Rattle.block.specs.Bytes.{num}
+use Rattle.block.specs.Bytes.{num, numberAt}
 use Rattle.block.specs.Blocks.{blockAt, numbersOf}
 use Rattle.block.proofs.RoundTrip.{length-numbers}
 use Rattle.section.specs.declared.kind.Kind.{Kind}
@@ -81,6 +81,16 @@ module _ (card : List ℕ) where
       let block : q / 126 < blocksFor count = omega arith in
       let rest : q % 126 < 126 = omega arith in
       omega arith
+
+  -- number q of a section stands at its spot in a card of full length
+  pub number-stands : (n m : ℕ) (kind : Kind) (q : ℕ) → length card ≡ blocksIn n m * 512 → q < countOf kind n m
+      → numberAt card (firstOf kind n m * 512 + spotOf q) ≡ Some (getD (numbersIn card n m kind) q (pos 0))
+  number-stands n m kind q long h =
+      let spot = spot-within (countOf kind n m) q h in
+      let end = ends n m kind in
+      let at : ℕ = firstOf kind n m * 512 + spotOf q in
+      let room : leb (at + 4) (length card) ≡ true = le-leb (at + 4) (length card) (omega arith) in
+      ap (λ t. cond t (Some (num card at)) None) room ∙ ap Some (sym (section-at n m kind q h))
 
   pub located : (first n m : ℕ) → Located card first n m (sectionAt card first n m)
   located first n m = of-kind (kindAt card first) where

@@ -9,4 +9,5 @@ mod sizes;
 
 pub use kind::Kind;
 pub use section::Section;
+pub use sections::spot_of;
 pub use sizes::Sizes;

@@ -1,6 +1,7 @@
 ghost use mathlib.Core.Path.{_≡_};
+ghost use Prim.Native.Nat.{_^_, _<_};
 ghost use Rattle.std.specs.Options.{mapped};
-ghost use Rattle.section.specs.Sections.{partOf, kindAt, runAt, sectionAt, valueAt};
+ghost use Rattle.section.specs.Sections.{partOf, kindAt, runAt, sectionAt, spotOf, valueAt};
 ghost use Rattle.section.specs.Numbers.{Located};
 use crate::kind::Kind;
 use crate::layout::blocks_for;
@@ -8,6 +9,15 @@ use crate::section::Section;
 use crate::sizes::Sizes;
 use block::Block;
 use block::number_at;
+
+/// The byte at which number `q` of a section starts in the section's bytes.
+pub fn spot_of(q: u16) -> usize
+    ensures value { λ r. ⌜ r ≡ spotOf q ⌝ }
+    ensures bound { λ r. ⌜ r < 2 ^ 19 ⌝ }
+{
+    let q = q as usize;
+    q / 126 * 512 + 4 + q % 126 * 4
+}
 
 /// The section that the letter of block `first` names, if the card has that block.
 fn kind_at(card: &[u8], first: u16) -> Option<Kind>
@@ -112,7 +122,6 @@ impl<'a> Section<'a> {
     pub fn value(&self, q: u16) -> Option<i32>
         ensures { λ r. ⌜ r ≡ valueAt (partOf (now (self .entry)) .bytes) q ⌝ }
     {
-        let q = q as usize;
-        number_at(self.bytes(), q / 126 * 512 + 4 + q % 126 * 4)
+        number_at(self.bytes(), spot_of(q))
     }
 }

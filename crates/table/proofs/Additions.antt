@@ -12,7 +12,8 @@ use Rattle.std.specs.declared.option.Option.the-variants.{Some, None}
 use Rattle.duality.specs.Sums.{∑}
 use Rattle.duality.proofs.Ring.{*ℤ-distr}
 use Rattle.duality.proofs.Sums.{∑-cong, ∑-add}
-use Rattle.table.specs.Grid.{Grid, heightOf, widthOf, within, limited, placeOf, matrixOf, vectorOf}
+use Rattle.duality.specs.Lists.{places}
+use Rattle.table.specs.Grid.{Grid, heightOf, widthOf, within, limited, placeOf, matrixOf}
 use Rattle.table.specs.Laws.{Multiplies, Alike}
 use Rattle.table.specs.Layers.{added, summed}
 use Rattle.table.specs.LayerLaws.{AddedUp}
@@ -47,11 +48,11 @@ products g h i xs a b c p q m =
     let wg : n ≡ widthOf g = sym (m .long) ∙ p .long in
     let wh : n ≡ widthOf h = sym (m .long) ∙ q .long in
     m .total
-    ∙ ∑-cong n (λ j. matrixOf (summed g h) i j *ℤ vectorOf xs j) (λ j. (matrixOf g i j *ℤ vectorOf xs j) +ℤ (matrixOf h i j *ℤ vectorOf xs j))
-    (λ j l. ap (λ (z : ℤ). z *ℤ vectorOf xs j) (entries g h i j (m .present j l)) ∙ *ℤ-distr (matrixOf g i j) (matrixOf h i j) (vectorOf xs j))
-    ∙ ∑-add n (λ j. matrixOf g i j *ℤ vectorOf xs j) (λ j. matrixOf h i j *ℤ vectorOf xs j)
-    ∙ ap (λ (z : ℤ). z +ℤ ∑ n (λ j. matrixOf h i j *ℤ vectorOf xs j)) (ap (λ (k : ℕ). ∑ k (λ j. matrixOf g i j *ℤ vectorOf xs j)) wg ∙ sym (p .total))
-    ∙ ap (λ (z : ℤ). a +ℤ z) (ap (λ (k : ℕ). ∑ k (λ j. matrixOf h i j *ℤ vectorOf xs j)) wh ∙ sym (q .total))
+    ∙ ∑-cong n (λ j. matrixOf (summed g h) i j *ℤ places xs j) (λ j. (matrixOf g i j *ℤ places xs j) +ℤ (matrixOf h i j *ℤ places xs j))
+    (λ j l. ap (λ (z : ℤ). z *ℤ places xs j) (entries g h i j (m .present j l)) ∙ *ℤ-distr (matrixOf g i j) (matrixOf h i j) (places xs j))
+    ∙ ∑-add n (λ j. matrixOf g i j *ℤ places xs j) (λ j. matrixOf h i j *ℤ places xs j)
+    ∙ ap (λ (z : ℤ). z +ℤ ∑ n (λ j. matrixOf h i j *ℤ places xs j)) (ap (λ (k : ℕ). ∑ k (λ j. matrixOf g i j *ℤ places xs j)) wg ∙ sym (p .total))
+    ∙ ap (λ (z : ℤ). a +ℤ z) (ap (λ (k : ℕ). ∑ k (λ j. matrixOf h i j *ℤ places xs j)) wh ∙ sym (q .total))
 
 pub added-up : (g h : Grid) → AddedUp g h (summed g h)
 added-up g h = record { high = summed-high g h; wide = summed-wide g h; places = summed-place g h; products = products g h }

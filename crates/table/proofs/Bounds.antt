@@ -14,7 +14,8 @@ use Rattle.std.specs.Options.{valueOr}
 use Rattle.std.specs.declared.option.Option.{Option}
 use Rattle.std.specs.declared.option.Option.the-variants.{Some, None}
 use Rattle.duality.specs.Sums.{∑, row}
-use Rattle.table.specs.Grid.{Grid, cut, heightOf, widthOf, within, limited, placeOf, vectorOf, matrixOf, every, allWithin}
+use Rattle.duality.specs.Lists.{places}
+use Rattle.table.specs.Grid.{Grid, cut, heightOf, widthOf, within, limited, placeOf, matrixOf, every, allWithin}
 use Rattle.table.specs.Laws.{Bounded}
 use Rattle.table.proofs.Integers.{abs-mul-le, abs-sum}
 
@@ -39,9 +40,9 @@ matrix-near g i j = near (placeOf g i j) (place-near g i j)
     near None b = omega arith
     near (Some z) b = b
 
-pub list-near : (m : ℕ) (xs : List ℤ) (j : ℕ) → allWithin m xs ≡ true → j < length xs → natAbs (vectorOf xs j) ≤ m
-list-near m xs j e h = leb-true _ _ (every-decides (λ k. within m (vectorOf xs k)) (length xs) .0 e j h)
+pub list-near : (m : ℕ) (xs : List ℤ) (j : ℕ) → allWithin m xs ≡ true → j < length xs → natAbs (places xs j) ≤ m
+list-near m xs j e h = leb-true _ _ (every-decides (λ k. within m (places xs k)) (length xs) .0 e j h)
 
 -- a sum over the first n places of a row, whose list numbers keep to their limit
-pub sum-near : (g : Grid) (i n : ℕ) (xs : List ℤ) → ((j : ℕ) → j < n → natAbs (vectorOf xs j) ≤ 1073741824) → natAbs (∑ n (λ j. matrixOf g i j *ℤ vectorOf xs j)) ≤ n * 2 ^ 50
-sum-near g i n xs h = abs-sum (λ j. matrixOf g i j *ℤ vectorOf xs j) (2 ^ 50) n (λ j l. abs-mul-le (matrixOf g i j) (vectorOf xs j) 1048576 1073741824 (matrix-near g i j) (h j l))
+pub sum-near : (g : Grid) (i n : ℕ) (xs : List ℤ) → ((j : ℕ) → j < n → natAbs (places xs j) ≤ 1073741824) → natAbs (∑ n (λ j. matrixOf g i j *ℤ places xs j)) ≤ n * 2 ^ 50
+sum-near g i n xs h = abs-sum (λ j. matrixOf g i j *ℤ places xs j) (2 ^ 50) n (λ j l. abs-mul-le (matrixOf g i j) (places xs j) 1048576 1073741824 (matrix-near g i j) (h j l))

@@ -14,7 +14,8 @@ use Rattle.std.specs.Orderings.{Decides}
 use Rattle.std.specs.shelf.Lists.{All}
 use Rattle.std.specs.declared.option.Option.the-variants.{Some}
 use Rattle.table.specs.declared.triplets.Record.{Record}
-use Rattle.table.specs.Grid.{cut, widthOf, limited, vectorOf, productOf}
+use Rattle.duality.specs.Lists.{places}
+use Rattle.table.specs.Grid.{cut, widthOf, limited, productOf}
 use Rattle.table.specs.Lines.{lineGrid}
 use Rattle.table.specs.Records.{isIndex, isFor, recorded, tripletGrid, Written}
 use Rattle.table.specs.RecordLaws.{For, NotFor, Told}
@@ -75,13 +76,13 @@ recorded-more rs k d i j low high =
     ∙ ap (λ (n : ℕ). cond (isFor (getD rs (k - 1) d) i j) (getD rs (k - 1) d .number) (recorded (drop n rs) i j)) back
 
 pub row-more : (rs : List Record) (k : ℕ) (d : Record) (i : ℕ) (old new : List ℤ) → 0 < k → k ≤ length rs → length old ≡ 64
-    → ((j : ℕ) → j < 64 → vectorOf old j ≡ recorded (drop k rs) i j) → Written old (getD rs (k - 1) d) i new
-    → (j : ℕ) → j < 64 → vectorOf new j ≡ recorded (drop (k - 1) rs) i j
+    → ((j : ℕ) → j < 64 → places old j ≡ recorded (drop k rs) i j) → Written old (getD rs (k - 1) d) i new
+    → (j : ℕ) → j < 64 → places new j ≡ recorded (drop (k - 1) rs) i j
 row-more rs k d i old new low high long before written j h =
     let r = getD rs (k - 1) d in
     written j (omega arith) ∙ ap (λ (z : ℤ). cond (isFor r i j) (r .number) z) (before j h) ∙ sym (recorded-more rs k d i j low high)
 
-pub line-product : (high wide : ℤ) (rs : List Record) (i : ℕ) (xs ns : List ℤ) → i < cut high → length ns ≡ cut wide → ((j : ℕ) → j < cut wide → vectorOf ns j ≡ recorded rs i j)
+pub line-product : (high wide : ℤ) (rs : List Record) (i : ℕ) (xs ns : List ℤ) → i < cut high → length ns ≡ cut wide → ((j : ℕ) → j < cut wide → places ns j ≡ recorded rs i j)
     → productOf (lineGrid ns) 0 xs ≡ productOf (tripletGrid high wide rs) i xs
 line-product high wide rs i xs ns inside long same =
     let w : widthOf (lineGrid ns) ≡ cut wide = let b = cut-below wide in omega arith in

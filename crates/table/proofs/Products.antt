@@ -13,11 +13,12 @@ use Rattle.std.specs.Options.{isSome}
 use Rattle.std.specs.declared.option.Option.{Option}
 use Rattle.std.specs.declared.option.Option.the-variants.{Some, None}
 use Rattle.duality.specs.Sums.{row}
-use Rattle.table.specs.Grid.{Grid, heightOf, widthOf, within, placeOf, vectorOf, matrixOf, allWithin, filled, multipliable, productOf}
+use Rattle.duality.specs.Lists.{places}
+use Rattle.table.specs.Grid.{Grid, heightOf, widthOf, within, placeOf, matrixOf, allWithin, filled, multipliable, productOf}
 use Rattle.table.specs.Laws.{Bounded, Exactly, Multiplies}
 use Rattle.table.proofs.Bounds.{cut-below, every-decides, list-near, sum-near}
 
-can-multiplies : (g : Grid) (i : ℕ) (xs : List ℤ) → multipliable g i xs ≡ true → Multiplies g i xs (row (widthOf g) (matrixOf g) (vectorOf xs) i)
+can-multiplies : (g : Grid) (i : ℕ) (xs : List ℤ) → multipliable g i xs ≡ true → Multiplies g i xs (row (widthOf g) (matrixOf g) (places xs) i)
 can-multiplies g i xs e =
     let d = and-parts (ltb i (heightOf g) && eqb (length xs) (widthOf g) && allWithin 1073741824 xs) (filled g i) e in
     let c = and-parts (ltb i (heightOf g) && eqb (length xs) (widthOf g)) (allWithin 1073741824 xs) (d .0) in
@@ -36,7 +37,7 @@ multiplies-can g i xs s m =
     and-from (ltb i (heightOf g) && eqb (length xs) (widthOf g) && allWithin 1073741824 xs) (filled g i)
     (and-from (ltb i (heightOf g) && eqb (length xs) (widthOf g)) (allWithin 1073741824 xs)
     (and-from (ltb i (heightOf g)) (eqb (length xs) (widthOf g)) (lt-ltb _ _ (m .inside)) (eq-eqb _ _ (m .long)))
-    (every-decides (λ j. within 1073741824 (vectorOf xs j)) (length xs) .1 (λ j h. le-leb _ _ (m .near j (let l : length xs ≡ widthOf g = m .long in omega arith)))))
+    (every-decides (λ j. within 1073741824 (places xs j)) (length xs) .1 (λ j h. le-leb _ _ (m .near j (let l : length xs ≡ widthOf g = m .long in omega arith)))))
     (every-decides (λ j. isSome (placeOf g i j)) (widthOf g) .1 (m .present))
 
 pub multiplies-product : (g : Grid) (i : ℕ) (xs : List ℤ) (s : ℤ) → Multiplies g i xs s → productOf g i xs ≡ Some s
@@ -47,14 +48,14 @@ product-multiplies g i xs s e = ⊎-elim given refused (cases-bool (multipliable
   where
     given : multipliable g i xs ≡ true → Multiplies g i xs s
     given t =
-        let p : productOf g i xs ≡ Some (row (widthOf g) (matrixOf g) (vectorOf xs) i) = cond-true (multipliable g i xs) _ None t in
-        let q : row (widthOf g) (matrixOf g) (vectorOf xs) i ≡ s = cc in
+        let p : productOf g i xs ≡ Some (row (widthOf g) (matrixOf g) (places xs) i) = cond-true (multipliable g i xs) _ None t in
+        let q : row (widthOf g) (matrixOf g) (places xs) i ≡ s = cc in
         let m = can-multiplies g i xs t in
         record { inside = m .inside; long = m .long; near = m .near; present = m .present; total = sym q }
 
     refused : multipliable g i xs ≡ false → Multiplies g i xs s
     refused t =
-        let p : productOf g i xs ≡ None = cond-false (multipliable g i xs) (Some (row (widthOf g) (matrixOf g) (vectorOf xs) i)) None t in
+        let p : productOf g i xs ≡ None = cond-false (multipliable g i xs) (Some (row (widthOf g) (matrixOf g) (places xs) i)) None t in
         let z : _≡_ {A = ℕ} 0 1 = cc in
         absurd (omega arith)
 

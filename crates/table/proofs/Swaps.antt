@@ -9,7 +9,8 @@ use Rattle.std.specs.Options.{isSome}
 use Rattle.std.specs.declared.option.Option.{Option}
 use Rattle.std.specs.declared.option.Option.the-variants.{None}
 use Rattle.duality.specs.Sums.{∑}
-use Rattle.table.specs.Grid.{Grid, heightOf, widthOf, limited, placeOf, matrixOf, vectorOf, productOf}
+use Rattle.duality.specs.Lists.{places}
+use Rattle.table.specs.Grid.{Grid, heightOf, widthOf, limited, placeOf, matrixOf, productOf}
 use Rattle.table.specs.Laws.{Exactly, Multiplies}
 use Rattle.table.specs.Layers.{flipped}
 use Rattle.table.specs.LayerLaws.{MultipliesDown, Swapped}
@@ -25,7 +26,7 @@ and-swap false false = refl
 pub flipped-place : (g : Grid) (i j : ℕ) → placeOf (flipped g) i j ≡ placeOf g j i
 flipped-place g i j = ap (λ (b : Bool). cond b (limited (g .cell j i)) None) (and-swap (ltb i (widthOf g)) (ltb j (heightOf g)))
 
-column : (g : Grid) (j : ℕ) (xs : List ℤ) → ∑ (heightOf g) (λ i. matrixOf (flipped g) j i *ℤ vectorOf xs i) ≡ ∑ (heightOf g) (λ i. matrixOf g i j *ℤ vectorOf xs i)
+column : (g : Grid) (j : ℕ) (xs : List ℤ) → ∑ (heightOf g) (λ i. matrixOf (flipped g) j i *ℤ places xs i) ≡ ∑ (heightOf g) (λ i. matrixOf g i j *ℤ places xs i)
 column g j xs = same-sum (λ i. placeOf (flipped g) j i) (λ i. placeOf g i j) xs (heightOf g) (λ i _. flipped-place g j i)
 
 row-down : (g : Grid) (j : ℕ) (xs : List ℤ) (s : ℤ) → Multiplies (flipped g) j xs s → MultipliesDown g j xs s

@@ -5,11 +5,12 @@ use mathlib.Core.Bool.{Bool, true, cond, _&&_}
 use mathlib.Core.List.{List}
 use lib.Dec.{ltb, leb, eqb}
 use lib.IntN.{ℤ, pos, negsuc, natAbs}
-use lib.ListN.{length, getD}
+use lib.ListN.{length}
 use Rattle.std.specs.Options.{isSome, valueOr}
 use Rattle.std.specs.declared.option.Option.{Option}
 use Rattle.std.specs.declared.option.Option.the-variants.{Some, None}
-use Rattle.duality.specs.Sums.{Vector, Matrix, row}
+use Rattle.duality.specs.Lists.{places}
+use Rattle.duality.specs.Sums.{Matrix, row}
 
 pub record Grid : Type 0 where
   pub rows : ℤ
@@ -39,10 +40,7 @@ limited (Some z) = cond (within 1048576 z) (Some z) None
 abbrev pub placeOf : Grid → ℕ → ℕ → Option ℤ
 placeOf g i j = cond (ltb i (heightOf g) && ltb j (widthOf g)) (limited (g .cell i j)) None
 
--- a list as a vector, and a grid as a matrix with 0 for a blank
-abbrev pub vectorOf : List ℤ → Vector
-vectorOf xs j = getD xs j (pos 0)
-
+-- a grid as a matrix, with 0 for a blank
 abbrev pub matrixOf : Grid → Matrix
 matrixOf g i j = valueOr (placeOf g i j) (pos 0)
 
@@ -52,7 +50,7 @@ every zero p = true
 every (suc n) p = p n && every n p
 
 abbrev pub allWithin : ℕ → List ℤ → Bool
-allWithin m xs = every (length xs) (λ j. within m (vectorOf xs j))
+allWithin m xs = every (length xs) (λ j. within m (places xs j))
 
 -- row i holds no blank
 abbrev pub filled : Grid → ℕ → Bool
@@ -64,4 +62,4 @@ multipliable g i xs = ltb i (heightOf g) && eqb (length xs) (widthOf g) && allWi
 
 -- the sum of number times list number along row i
 abbrev pub productOf : Grid → ℕ → List ℤ → Option ℤ
-productOf g i xs = cond (multipliable g i xs) (Some (row (widthOf g) (matrixOf g) (vectorOf xs) i)) None
+productOf g i xs = cond (multipliable g i xs) (Some (row (widthOf g) (matrixOf g) (places xs) i)) None

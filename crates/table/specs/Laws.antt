@@ -9,7 +9,8 @@ use Rattle.std.specs.Options.{isSome}
 use Rattle.std.specs.declared.option.Option.{Option}
 use Rattle.std.specs.declared.option.Option.the-variants.{Some, None}
 use Rattle.duality.specs.Sums.{row}
-use Rattle.table.specs.Grid.{Grid, heightOf, widthOf, placeOf, productOf, matrixOf, vectorOf}
+use Rattle.duality.specs.Lists.{places}
+use Rattle.table.specs.Grid.{Grid, heightOf, widthOf, placeOf, productOf, matrixOf}
 
 -- an answer that is given lies from -m to m
 abbrev pub Bounded : ℕ → Option ℤ → Type 0
@@ -24,9 +25,9 @@ Exactly P r = (z : ℤ) → (r ≡ Some z → P z) × (P z → r ≡ Some z)
 pub record Multiplies (g : Grid) (i : ℕ) (xs : List ℤ) (s : ℤ) : Type 0 where
   pub inside : i < heightOf g
   pub long : length xs ≡ widthOf g
-  pub near : (j : ℕ) → j < widthOf g → natAbs (vectorOf xs j) ≤ 1073741824
+  pub near : (j : ℕ) → j < widthOf g → natAbs (places xs j) ≤ 1073741824
   pub present : (j : ℕ) → j < widthOf g → isSome (placeOf g i j) ≡ true
-  pub total : s ≡ row (widthOf g) (matrixOf g) (vectorOf xs) i
+  pub total : s ≡ row (widthOf g) (matrixOf g) (places xs) i
 
 -- two grids give the same answer to every question
 pub record Alike (g h : Grid) : Type 0 where

@@ -7,7 +7,8 @@ use lib.IntN.{ℤ, natAbs, _+ℤ_, _*ℤ_}
 use lib.ListN.{length}
 use Rattle.std.specs.Options.{isSome}
 use Rattle.duality.specs.Sums.{∑}
-use Rattle.table.specs.Grid.{Grid, heightOf, widthOf, limited, placeOf, productOf, matrixOf, vectorOf}
+use Rattle.duality.specs.Lists.{places}
+use Rattle.table.specs.Grid.{Grid, heightOf, widthOf, limited, placeOf, productOf, matrixOf}
 use Rattle.table.specs.Laws.{Exactly, Multiplies}
 use Rattle.table.specs.Layers.{added}
 
@@ -15,9 +16,9 @@ use Rattle.table.specs.Layers.{added}
 pub record MultipliesDown (g : Grid) (j : ℕ) (xs : List ℤ) (s : ℤ) : Type 0 where
   pub inside : j < widthOf g
   pub long : length xs ≡ heightOf g
-  pub near : (i : ℕ) → i < heightOf g → natAbs (vectorOf xs i) ≤ 1073741824
+  pub near : (i : ℕ) → i < heightOf g → natAbs (places xs i) ≤ 1073741824
   pub present : (i : ℕ) → i < heightOf g → isSome (placeOf g i j) ≡ true
-  pub total : s ≡ ∑ (heightOf g) (λ i. matrixOf g i j *ℤ vectorOf xs i)
+  pub total : s ≡ ∑ (heightOf g) (λ i. matrixOf g i j *ℤ places xs i)
 
 -- f is g with rows and columns swapped: the product of a row of f is that of a column of g
 pub record Swapped (g f : Grid) : Type 0 where

@@ -8,7 +8,8 @@ use lib.IntN.{ℤ, pos, negsuc}
 use lib.ListN.{length}
 use Rattle.std.specs.declared.option.Option.the-variants.{Some}
 use Rattle.table.specs.declared.triplets.Record.{Record}
-use Rattle.table.specs.Grid.{Grid, vectorOf}
+use Rattle.duality.specs.Lists.{places}
+use Rattle.table.specs.Grid.{Grid}
 
 -- the whole number z is the index k
 abbrev pub isIndex : ℤ → ℕ → Bool
@@ -28,4 +29,4 @@ tripletGrid high wide rs = record { rows = high; columns = wide; cell = λ i j. 
 
 -- a row after the record's number was written at its column, if it is for row i
 abbrev pub Written : List ℤ → Record → ℕ → List ℤ → Type 0
-Written old r i new = (j : ℕ) → j < length old → vectorOf new j ≡ cond (isFor r i j) (r .number) (vectorOf old j)
+Written old r i new = (j : ℕ) → j < length old → places new j ≡ cond (isFor r i j) (r .number) (places old j)

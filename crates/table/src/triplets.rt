@@ -2,7 +2,8 @@
 ghost use mathlib.Core.Path.{_≡_};
 ghost use Prim.Native.Nat.{ℕ, _<_};
 ghost use denote.Ref.{now as held};
-ghost use Rattle.table.specs.Grid.{vectorOf};
+ghost use Rattle.duality.specs.Lists.{places};
+
 ghost use Rattle.table.specs.RecordLaws.{Told};
 ghost use Rattle.table.specs.Records.{isFor, isIndex, recorded, tripletGrid, Written};
 use crate::interface::Table;
@@ -71,7 +72,7 @@ fn first_number(records: &[Record], i: usize, j: usize) -> i64
 
 /// The numbers in row `i`, in one pass: from the last record to the first, so that the first for a place stays.
 fn row_numbers(records: &[Record], i: usize) -> [i64; SIZE_LIMIT]
-    ensures { λ r. ⌜ ((j : ℕ) → j < 64 → vectorOf r j ≡ recorded (now (records .entry)) i j) ⌝ }
+    ensures { λ r. ⌜ ((j : ℕ) → j < 64 → places r j ≡ recorded (now (records .entry)) i j) ⌝ }
 {
     let mut row = [0; SIZE_LIMIT];
     for k in (0..records.len()).rev() {

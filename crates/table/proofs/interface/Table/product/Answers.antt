@@ -11,7 +11,8 @@ use borrow.Author.Needs.{needs}
 use Rattle.std.proofs.shelf.Signed.{toZ-ofZ}
 use Rattle.std.specs.Options.{isSome}
 use Rattle.std.specs.declared.option.Option.the-variants.{None}
-use Rattle.table.specs.Grid.{placeOf, productOf, vectorOf, widthOf}
+use Rattle.duality.specs.Lists.{places}
+use Rattle.table.specs.Grid.{placeOf, productOf, widthOf}
 use Rattle.table.specs.Laws.{Multiplies}
 use Rattle.table.proofs.Along.{sumTo, term-fits, sum-fits, sum-more, some-more, none-not}
 use Rattle.table.proofs.Products.{product-none, product-lawful, multiplies-product}
@@ -65,7 +66,7 @@ loop-j-again g c =
     let here = c .in-Continue-number .ensures tt .value in (
       toZ-ofZ w64 _ (add-sum g c) ∙ sum-more grid (c .args .i) (c .loop-j .j) (c .args .xs .now) _ _ (c .in-Continue-number .number) (c .loop-j .inv .0) (mul-held _ _ fn fx f) here,
       below-more (λ k. isSome (placeOf grid (c .args .i) k) ≡ true) _ (c .loop-j .inv .1) (some-more (placeOf grid (c .args .i) (c .loop-j .j)) _ here),
-      below-more (λ k. natAbs (vectorOf (c .args .xs .now) k) ≤ 1073741824) _ (c .loop-j .inv .2) m,
+      below-more (λ k. natAbs (places (c .args .xs .now) k) ≤ 1073741824) _ (c .loop-j .inv .2) m,
     )
 
 pub returns : need.returns

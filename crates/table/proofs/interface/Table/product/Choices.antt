@@ -3,7 +3,8 @@ use mathlib.Core.Path.{_≡_}
 use mathlib.Core.Bool.{true}
 use lib.IntN.{natAbs}
 use Rattle.std.specs.Options.{isSome}
-use Rattle.table.specs.Grid.{placeOf, vectorOf}
+use Rattle.duality.specs.Lists.{places}
+use Rattle.table.specs.Grid.{placeOf}
 use Rattle.table.proofs.Along.{sumTo}
 use Rattle.table.proofs.interface.Table.product.Given as given
 
@@ -12,4 +13,4 @@ abbrev pub Inv-loop-j : given.InvT-loop-j
 Inv-loop-j g l =
     (l .sum ≡ sumTo (g .Self·Table .meant (l .self)) (l .i) (l .xs) (l .j))
     × ((k : ℕ) → k < l .j → isSome (placeOf (g .Self·Table .meant (l .self)) (l .i) k) ≡ true)
-    × ((k : ℕ) → k < l .j → natAbs (vectorOf (l .xs) k) ≤ 1073741824)
+    × ((k : ℕ) → k < l .j → natAbs (places (l .xs) k) ≤ 1073741824)
