@@ -49,15 +49,16 @@ module _ (card : List ℕ) (s : Sound card) where
       let m : ℕ = mOf card in
       let g : Grid = sectionGrid card (firstOf kind n m) (pos rows) (pos n) in
       let tall : heightOf g ≡ rows = omega arith in
-      record
-        { high = tall
-        ; wide = few
-        ; places = λ i j hi hj.
+      record {
+        high = tall;
+        wide = few;
+        places = λ i j hi hj.
             let within = mul-add-lt i n j rows hi hj in
             let less : i * n + j < countOf kind n m = omega (arith, count) in
             place-inside g i j (omega (arith, tall)) (omega (arith, few))
             ∙ (ap (λ w. limited (numberAt card (firstOf kind n m * 512 + spotOf (i * w + j)))) few
-            ∙ ap limited (number-stands card n m kind (i * n + j) (s .full) less)) }
+            ∙ ap limited (number-stands card n m kind (i * n + j) (s .full) less));
+      }
 
   pub holds-curvature : Holds card Curvature (nOf card) (curvatureGrid card)
   holds-curvature =
@@ -67,7 +68,7 @@ module _ (card : List ℕ) (s : Sound card) where
   pub holds-rows : Holds card Rows (mOf card) (rowsGrid card)
   holds-rows =
       let first : 1 + blocksFor (nOf card * nOf card) ≡ 1 + blocksFor (cut (sizeAt card 4) * cut (sizeAt card 4))
-            = ap (λ (k : ℕ). 1 + blocksFor (k * k)) (sym few ∙ sym (ap cut ropes-stand)) in
+      = ap (λ (k : ℕ). 1 + blocksFor (k * k)) (sym few ∙ sym (ap cut ropes-stand)) in
       subst (λ (f : ℕ). Holds card Rows (mOf card) (sectionGrid card f (sizeAt card 8) (sizeAt card 4))) first
       (subst (λ (z : ℤ). Holds card Rows (mOf card) (sectionGrid card (1 + blocksFor (nOf card * nOf card)) z (sizeAt card 4))) (sym rows-stand)
       (subst (λ (z : ℤ). Holds card Rows (mOf card) (sectionGrid card (1 + blocksFor (nOf card * nOf card)) (pos (mOf card)) z)) (sym ropes-stand)

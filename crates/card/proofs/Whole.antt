@@ -71,14 +71,16 @@ module _ (card : List ℕ) where
       let c = z .1 in
       let ropes : pos (nOf card) ≡ num card 4 = size-is 1 (num card 4) (q .0) in
       let rows : pos (mOf card) ≡ num card 8 = size-is 0 (num card 8) (r .0) in
-      record
-        { pass = rw (a, b, c)
-        ; ropes = ropes
-        ; rows = rows
-        ; range = record
-            { some = leb-true 1 (nOf card) (ap (leZ (pos 1)) ropes ∙ q .0)
-            ; few = leb-true (nOf card) 16 (ap (λ z. leZ z (pos 16)) ropes ∙ q .1)
-            ; short = leb-true (mOf card) 32 (ap (λ z. leZ z (pos 32)) rows ∙ r .1) } }
+      record {
+        pass = rw (a, b, c);
+        ropes = ropes;
+        rows = rows;
+        range = record {
+          some = leb-true 1 (nOf card) (ap (leZ (pos 1)) ropes ∙ q .0);
+          few = leb-true (nOf card) 16 (ap (λ z. leZ z (pos 16)) ropes ∙ q .1);
+          short = leb-true (mOf card) 32 (ap (λ z. leZ z (pos 32)) rows ∙ r .1);
+        };
+      }
 
   -- what a card that passes says of its length and its parts
   pub sound : cardCheck card ≡ Ok tt → Sound card
@@ -91,12 +93,13 @@ module _ (card : List ℕ) where
       let l = cond-ok (leb 512 (length card) && (leb (length card) 7680 && eqb (length card % 512) 0)) (Ok tt) (Fault.Length (length card)) (a .0) in
       let lp = and-parts (leb 512 (length card)) (leb (length card) 7680 && eqb (length card % 512) 0) (l .0) in
       let f = cond-ok (eqb (length card) (blocksIn n m * 512)) (Ok tt) (Fault.Length (length card)) (c .0) in
-      record
-        { enough = leb-true 512 (length card) (lp .0)
-        ; head = b .0
-        ; sizes = sized (b .0)
-        ; full = eqb-true (length card) (blocksIn n m * 512) (f .0)
-        ; sections = c .1 }
+      record {
+        enough = leb-true 512 (length card) (lp .0);
+        head = b .0;
+        sizes = sized (b .0);
+        full = eqb-true (length card) (blocksIn n m * 512) (f .0);
+        sections = c .1;
+      }
 
 module _ (card : List ℕ) (small : (k : ℕ) → getD card k 0 < 256) where
   small-at : (p k : ℕ) → getD (take 512 (drop p card)) k 0 < 256

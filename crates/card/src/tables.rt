@@ -24,7 +24,12 @@ impl<'a> CardTable<'a> {
         ensures holds { λ _. ⌜ (cardCheck (now (card .entry)) ≡ Ok tt → Holds (now (card .entry)) Curvature (nOf (now (card .entry))) (curvatureGrid (now (card .entry)))) ⌝ }
     {
         let ropes = size_at(card, 4);
-        CardTable { bytes: card, first: 1, rows: ropes, columns: ropes }
+        CardTable {
+            bytes: card,
+            first: 1,
+            rows: ropes,
+            columns: ropes,
+        }
     }
 
     /// The table of section A. On a card that passes its check it has the section's numbers.
@@ -34,7 +39,12 @@ impl<'a> CardTable<'a> {
     {
         let ropes = size_at(card, 4);
         let n = cut_size(ropes);
-        CardTable { bytes: card, first: (1 + (n * n + 125) / 126) as u16, rows: size_at(card, 8), columns: ropes }
+        CardTable {
+            bytes: card,
+            first: (1 + (n * n + 125) / 126) as u16,
+            rows: size_at(card, 8),
+            columns: ropes,
+        }
     }
 }
 

@@ -3,12 +3,18 @@
 ghost use Prim.Native.Nat.{_≤_};
 ghost use lib.ListN.{length};
 ghost use Rattle.std.specs.Vec.{made};
+use card::CardTable;
+use card::CardTableTable;
+use card::Kind;
 use card::Section;
 use card::Sizes;
 use card::check_card;
+use std::alloc::AllocError;
+use std::alloc::Global;
 use std::error::AnyError;
 use std::io;
 use std::io::Read;
+use table::Table;
 
 /// One byte more than the longest card, so that a longer one is seen to be too long.
 const MOST: usize = 7681;
@@ -46,6 +52,32 @@ fn print_sections(rt: &LibcRuntime, card: &[u8], sizes: &Sizes) -> io::Result<()
     Ok(())
 }
 
+/// The lower bounds of the ropes, as the card's section B has them.
+fn lower_bounds(heap: Global, card: &[u8], sizes: &Sizes) -> Result<Vec<i64>, AllocError> {
+    let mut lower = Vec::new(heap);
+    let Some(section) = Section::at(card, sizes.first(Kind::Bounds), sizes) else {
+        return Ok(lower);
+    };
+    for j in 0..sizes.ropes() {
+        if let Some(z) = section.value(j) {
+            lower.push(z as i64)?;
+        }
+    }
+    Ok(lower)
+}
+
+/// Prints the sum of each row at the lower bounds, or `blank` where the card has no such sum.
+fn print_sums(rt: &LibcRuntime, card: &[u8], lower: &[i64]) -> io::Result<()> {
+    let table = CardTable::rows(card);
+    for i in 0..table.height() {
+        match table.product(i, lower) {
+            Some(sum) => println!(rt, "row {i} sum {sum}")?,
+            None => println!(rt, "row {i} blank")?,
+        }
+    }
+    Ok(())
+}
+
 fn run(rt: &LibcRuntime) -> Result<(), AnyError> {
     let mut buffer = vec![in rt.alloc(); 0u8; MOST]?;
     let len = fill(&mut rt.stdin(), buffer.as_mut_slice())?;
@@ -53,6 +85,8 @@ fn run(rt: &LibcRuntime) -> Result<(), AnyError> {
     match check_card(card) {
         Ok(sizes) => {
             print_sections(rt, card, &sizes)?;
+            let lower = lower_bounds(rt.alloc(), card, &sizes)?;
+            print_sums(rt, card, lower.as_slice())?;
             Ok(())
         }
         Err(fault) => {

@@ -3,7 +3,6 @@ ghost use mathlib.Core.Path.{_≡_};
 ghost use Prim.Native.Nat.{ℕ, _<_};
 ghost use denote.Ref.{now as held};
 ghost use Rattle.duality.specs.Lists.{places};
-
 ghost use Rattle.table.specs.RecordLaws.{Told};
 ghost use Rattle.table.specs.Records.{isFor, isIndex, recorded, tripletGrid, Written};
 use crate::interface::Table;

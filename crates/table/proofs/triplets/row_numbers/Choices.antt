@@ -2,7 +2,6 @@ use Prim.Native.Nat.{ℕ, _<_}
 use mathlib.Core.Path.{_≡_}
 use lib.ListN.{drop, length}
 use Rattle.duality.specs.Lists.{places}
-
 use Rattle.table.specs.Records.{recorded}
 use Rattle.table.proofs.triplets.row_numbers.Given as given
 

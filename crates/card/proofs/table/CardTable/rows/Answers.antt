@@ -20,8 +20,9 @@ returns c =
     let ropes : toZ w64 (ofZ w64 (c .size-at-ropes .result)) ≡ sizeAt card 4 = toZ-ofZ w64 (c .size-at-ropes .result) fits-n ∙ c .size-at-ropes .ensures in
     let rows : toZ w64 (ofZ w64 (c .size-at .result)) ≡ sizeAt card 8 = toZ-ofZ w64 (c .size-at .result) fits-m ∙ c .size-at .ensures in
     let n : c .cut-size-n .result ≡ cut (sizeAt card 4) = c .cut-size-n .ensures ∙ ap cut ropes in
-    record
-      { meant = ap (λ (k : ℕ). sectionGrid card (1 + blocksFor (k * k)) (toZ w64 (ofZ w64 (c .size-at .result))) (toZ w64 (ofZ w64 (c .size-at-ropes .result)))) n
+    record {
+      meant = ap (λ (k : ℕ). sectionGrid card (1 + blocksFor (k * k)) (toZ w64 (ofZ w64 (c .size-at .result))) (toZ w64 (ofZ w64 (c .size-at-ropes .result)))) n
           ∙ (ap (λ (z : ℤ). sectionGrid card (1 + blocksFor (cut (sizeAt card 4) * cut (sizeAt card 4))) z (toZ w64 (ofZ w64 (c .size-at-ropes .result)))) rows
-          ∙ ap (λ (z : ℤ). sectionGrid card (1 + blocksFor (cut (sizeAt card 4) * cut (sizeAt card 4))) (sizeAt card 8) z) ropes)
-      ; holds = λ ok. holds-rows card (sound card ok) }
+          ∙ ap (λ (z : ℤ). sectionGrid card (1 + blocksFor (cut (sizeAt card 4) * cut (sizeAt card 4))) (sizeAt card 8) z) ropes);
+      holds = λ ok. holds-rows card (sound card ok);
+    }
