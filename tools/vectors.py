@@ -1,0 +1,68 @@
+#!/usr/bin/env python3
+"""Jobs, and what the independent solver in tools/solver.py does with each.
+
+  tools/vectors.py DIR       writes DIR/stdin, a job to a line, and DIR/stdout, an answer to a line
+
+The seed is fixed, so the files can be made again. A line has the number of ropes, rows and moves, and then G row by row, c, A rope by rope,
+the limits lo and hi, the bounds l and u, and the point that the walk starts from."""
+import os
+import random
+import sys
+
+sys.path.insert(0, os.path.dirname(os.path.abspath(__file__)))
+from solver import Job, dot, walk
+
+
+def between(rng, size):
+    return rng.randrange(-size, size + 1)
+
+
+def curvature(rng, n, kind):
+    if kind == 0:  # a sum of squares, as a plan's has to be
+        v = [[between(rng, 4) for _ in range(n)] for _ in range(n)]
+        return [[sum(v[k][i] * v[k][j] for k in range(n)) for j in range(n)] for i in range(n)]
+    if kind == 1:  # the diagonal alone
+        return [[rng.randrange(0, 9) if i == j else 0 for j in range(n)] for i in range(n)]
+    return [[between(rng, 4096 if kind == 2 else 1048576) for _ in range(n)] for _ in range(n)]  # neither symmetric nor convex
+
+
+def job(rng, k):
+    n = rng.choice([1, 2, 2, 3, 4, 5, 8]) if k % 20 else 16
+    m = rng.choice([0, 1, 2, 3, 6]) if k % 20 else 32
+    size = rng.choice([1, 10, 1000, 32768])
+    l = [between(rng, size) for _ in range(n)]
+    u = [rng.choice([x, min(32768, x + rng.randrange(0, 4)), min(32768, x + rng.randrange(0, 2 * size + 1))]) for x in l]
+    a = [[between(rng, rng.choice([1, 9, 1024, 1048576])) for _ in range(n)] for _ in range(m)]
+    z = [rng.randrange(x, y + 1) for x, y in zip(l, u)]
+    lo, hi = [], []
+    for i in range(m):
+        s = dot(a[i], z) + rng.choice([0, 0, 5, -7, 400, -30000])
+        low = max(-536870912, min(536870912, s - rng.choice([0, 1, 50])))
+        lo.append(low)
+        hi.append(min(536870912, low + rng.choice([0, 1, 3, 100])))
+    c = [between(rng, rng.choice([9, 1000, 268435456])) for _ in range(n)]
+    start = [rng.choice([x, y, rng.randrange(x, y + 1)]) for x, y in zip(l, u)]
+    return Job(n, m, curvature(rng, n, rng.randrange(4)), c, a, lo, hi, l, u), start
+
+
+def words(job, budget, start):
+    flat = [x for row in job.g for x in row]
+    by_rope = [job.a[i][j] for j in range(job.n) for i in range(job.m)]
+    return [job.n, job.m, budget, *flat, *job.c, *by_rope, *job.lo, *job.hi, *job.l, *job.u, *start]
+
+
+def main(folder):
+    rng = random.Random(7)
+    lines, answers = [], []
+    for k in range(400):
+        j, start = job(rng, k)
+        budget = rng.choice([0, 1, 2, 3, 7, 30, 200, 5000]) if j.n < 16 else rng.choice([0, 1, 5, 12])
+        moves, end, point = walk(j, start, budget)
+        lines.append(" ".join(map(str, words(j, budget, start))))
+        answers.append(f"walk {moves} {end} " + " ".join(map(str, point)))
+    open(os.path.join(folder, "stdin"), "w").write("\n".join(lines) + "\n")
+    open(os.path.join(folder, "stdout"), "w").write("\n".join(answers) + "\n")
+
+
+if __name__ == "__main__":
+    main(*sys.argv[1:])
