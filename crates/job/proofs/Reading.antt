@@ -73,6 +73,18 @@ module _ (j : Job) where
   pub u-read : (i : ℕ) (x : ℤ) → x ≡ getD (vec-items (j .u)) i x → i < j .ropes → back x ≡ problemOf j .u i
   u-read i x e l = read-back 32768 (vec-items (j .u)) i (vec-len (j .u)) x e (omega (arith, j .rights .0)) (j .u .ok .0) (u-small i) (lit< tt)
 
+  pub a-there : (i k : ℕ) → i < j .rows → k < j .ropes → k * j .rows + i < vec-len (j .a)
+  a-there i k l m = omega (arith, place-within k (j .ropes) (j .rows) i m l, j .weights .0)
+
+  pub a-read : (i k : ℕ) (x : ℤ) → x ≡ getD (vec-items (j .a)) (k * j .rows + i) x → i < j .rows → k < j .ropes → back x ≡ problemOf j .A i k
+  a-read i k x e l m = read-back 1048576 (vec-items (j .a)) (k * j .rows + i) (vec-len (j .a)) x e (a-there i k l m) (j .a .ok .0) (a-small (k * j .rows + i)) (lit< tt)
+
+  pub g-there : (i k : ℕ) → i < j .ropes → k < j .ropes → i * j .ropes + k < vec-len (j .g)
+  g-there i k l m = omega (arith, place-within i (j .ropes) (j .ropes) k l m, j .matrix .0)
+
+  pub g-read : (i k : ℕ) (x : ℤ) → x ≡ getD (vec-items (j .g)) (i * j .ropes + k) x → i < j .ropes → k < j .ropes → back x ≡ problemOf j .G i k
+  g-read i k x e l m = read-back 1048576 (vec-items (j .g)) (i * j .ropes + k) (vec-len (j .g)) x e (g-there i k l m) (j .g .ok .0) (g-small (i * j .ropes + k)) (lit< tt)
+
 module _ (j : Job) (z : List ℤ) (limit : ℕ) (le : limit ≤ 1073741824) (p : aPoint (j .ropes) limit z ≡ true) where
   long : length z ≡ j .ropes
   long = point-long (j .ropes) limit z p
