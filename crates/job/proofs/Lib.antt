@@ -6,3 +6,4 @@ pub mod Reading
 pub mod Scoring
 pub mod Outside
 pub mod Holding
+pub mod Gradient

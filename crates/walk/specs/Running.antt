@@ -16,6 +16,10 @@ use Rattle.job.specs.declared.numbers.Job.{Job}
 use Rattle.walk.specs.Lowering.{lower}
 use Rattle.walk.specs.declared.running.Running.{Running}
 
+-- a list of n numbers, those of the vector
+abbrev pub Lists : ℕ → List ℤ → Vector → Type 0
+Lists n xs v = (length xs ≡ n) × ((k : ℕ) → k < n → places xs k ≡ v k)
+
 -- the row sums, the gradient and the ticks outside are those of z
 pub record Tracks (j : Job) (z : List ℤ) (s : Running) : Type 0 where
   pub sums-long : vec-len (s .sums) ≡ j .rows

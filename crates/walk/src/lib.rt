@@ -13,3 +13,4 @@ mod walks;
 pub use ends::End;
 pub use ends::Unwalked;
 pub use ends::Walked;
+pub use walks::walk;

@@ -12,7 +12,7 @@ ghost use Rattle.job.specs.Numbers.{problemOf};
 ghost use Rattle.job.specs.Points.{aPoint, gradient as gradientOf};
 ghost use Rattle.job.specs.Rows.{excess as excessOf};
 ghost use Rattle.walk.specs.Lowering.{lower as lowerOf};
-ghost use Rattle.walk.specs.Running.{Tracks, Tame, outsideAfter, gainOf, looksLower, Raised, Shifted};
+ghost use Rattle.walk.specs.Running.{Lists, Tracks, Tame, outsideAfter, gainOf, looksLower, Raised, Shifted};
 use job::Job;
 use std::alloc::AllocError;
 use std::alloc::Global;
@@ -71,7 +71,82 @@ fn lower(before: i64, after: i64, by: i64) -> bool
     }
 }
 
+/// Each row's sum once rope k has moved by d.
+fn shift_sums(sums: &mut [i64], job: &Job, k: usize, d: i64)
+    requires long { ⌜ length (now sums) ≡ now job .rows ⌝ }
+    requires rope { ⌜ k < now job .ropes ⌝ }
+    requires small { ⌜ natAbs d ≤ 16384 ⌝ }
+    requires sums_small { ⌜ ((i : ℕ) → natAbs (places (now sums) i) ≤ 2 ^ 41) ⌝ }
+    ensures { λ _. ⌜ Raised (now (sums .entry)) (now (sums .exit)) (λ i. problemOf (now (job .entry)) .A i k) d ⌝ }
+{
+    for i in 0..job.rows {
+        sums[i] = shifted(sums[i], job.a[k * job.rows + i], d);
+    }
+}
+
+/// The gradient once rope k has moved by d: G counts by its row and by its column.
+fn shift_slopes(slopes: &mut [i64], job: &Job, k: usize, d: i64)
+    requires long { ⌜ length (now slopes) ≡ now job .ropes ⌝ }
+    requires rope { ⌜ k < now job .ropes ⌝ }
+    requires small { ⌜ natAbs d ≤ 16384 ⌝ }
+    requires slopes_small { ⌜ ((i : ℕ) → natAbs (places (now slopes) i) ≤ 2 ^ 41) ⌝ }
+    ensures { λ _. ⌜ Raised (now (slopes .entry)) (now (slopes .exit)) (λ i. problemOf (now (job .entry)) .G i k +ℤ problemOf (now (job .entry)) .G k i) d ⌝ }
+{
+    for i in 0..job.ropes {
+        let w = job.g[i * job.ropes + k] + job.g[k * job.ropes + i];
+        slopes[i] = shifted(slopes[i], w, d);
+    }
+}
+
+/// The row sums at a point.
+fn sums_at(heap: Global, job: &Job, z: &[i64]) -> Result<Vec<i64>, AllocError>
+    requires { ⌜ aPoint (now job .ropes) 32768 (now z) ≡ true ⌝ }
+    ensures { λ r. ⌜ made r (λ v. Lists (now (job .entry) .rows) (vec-items v) (rowAt (problemOf (now (job .entry))) (places (now (z .entry))))) ⌝ }
+{
+    let mut sums = Vec::with_capacity(heap, job.rows)?;
+    for i in 0..job.rows {
+        sums.push(job.row_sum(i, z).unwrap_or(0))?;
+    }
+    Ok(sums)
+}
+
+/// The gradient at a point.
+fn slopes_at(heap: Global, job: &Job, z: &[i64]) -> Result<Vec<i64>, AllocError>
+    requires { ⌜ aPoint (now job .ropes) 32768 (now z) ≡ true ⌝ }
+    ensures { λ r. ⌜ made r (λ v. Lists (now (job .entry) .ropes) (vec-items v) (gradientOf (problemOf (now (job .entry))) (places (now (z .entry))))) ⌝ }
+{
+    let mut slopes = Vec::with_capacity(heap, job.ropes)?;
+    for k in 0..job.ropes {
+        slopes.push(job.gradient(k, z).unwrap_or(0))?;
+    }
+    Ok(slopes)
+}
+
 impl Running {
+    /// The running sums of a point.
+    pub(crate) fn start(heap: Global, job: &Job, z: &[i64]) -> Result<Running, AllocError>
+        requires { ⌜ aPoint (now job .ropes) 32768 (now z) ≡ true ⌝ }
+        ensures { λ r. ⌜ made r (λ s. Tracks (now (job .entry)) (now (z .entry)) s) ⌝ }
+    {
+        let sums = sums_at(heap, job, z)?;
+        let slopes = slopes_at(heap, job, z)?;
+        let outside = job.outside(z).unwrap_or(0);
+        Ok(Running { sums, slopes, outside })
+    }
+
+    /// Follows a move of rope k by d.
+    pub(crate) fn shift(&mut self, job: &Job, k: usize, d: i64)
+        requires tame { ⌜ Tame (now job) (now self) ⌝ }
+        requires rope { ⌜ k < now job .ropes ⌝ }
+        requires small { ⌜ natAbs d ≤ 16384 ⌝ }
+        ensures { λ _. ⌜ Shifted (now (job .entry)) (now (self .entry)) (now (self .exit)) k d ⌝ }
+    {
+        let outside = self.outside_after(job, k, d);
+        self.outside = outside;
+        shift_sums(&mut self.sums, job, k, d);
+        shift_slopes(&mut self.slopes, job, k, d);
+    }
+
     /// The ticks outside once rope k has moved by d.
     fn outside_after(&self, job: &Job, k: usize, d: i64) -> i64
         requires tame { ⌜ Tame (now job) (now self) ⌝ }
