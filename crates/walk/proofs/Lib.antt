@@ -5,3 +5,4 @@ pub mod Following
 pub mod Looking
 pub mod Raising
 pub mod Listing
+pub mod Tried
