@@ -6,3 +6,6 @@ pub mod Looking
 pub mod Raising
 pub mod Listing
 pub mod Tried
+pub mod Firsts
+pub mod AlongSizes
+pub mod AlongRopes
