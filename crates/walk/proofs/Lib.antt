@@ -9,3 +9,7 @@ pub mod Tried
 pub mod Firsts
 pub mod AlongSizes
 pub mod AlongRopes
+pub mod Each
+pub mod Steps
+pub mod Turns
+pub mod Lawful
