@@ -1,9 +1,11 @@
 -- The running sums follow a move.
 use Prim.Native.Nat.{ℕ, _+_, _*_, _^_, _≤_, _<_}
 use mathlib.Core.Path.{_≡_, refl, sym, ap, subst, _∙_}
+use mathlib.Core.Bool.{true}
 use mathlib.Core.List.{List}
 use mathlib.Core.Logic.{⊎-elim}
 use native.Mathlib.Omega.{arith}
+use lib.Dec.{eqb}
 use lib.ListN.{length, set}
 use lib.IntN.{ℤ, pos, natAbs, _+ℤ_, _*ℤ_}
 use mir.Syntax.{w64}
@@ -12,7 +14,7 @@ use Rattle.std.specs.Changed.{refilled}
 use Rattle.std.specs.Of.Vec.{vec-items, vec-len}
 use Rattle.std.proofs.shelf.Lists.{refilled-is, getD-past}
 use Rattle.std.proofs.shelf.Signed.{ints, toZ-ofZ}
-use Rattle.std.proofs.shelf.Tests.{cases-lt}
+use Rattle.std.proofs.shelf.Tests.{cases-lt, and-from, eq-eqb, le-leb}
 use Rattle.duality.specs.Lists.{places}
 use Rattle.duality.specs.Sums.{∑}
 use Rattle.duality.specs.Problem.{rowAt, cost}
@@ -21,12 +23,14 @@ use Rattle.duality.proofs.Shifts.{Shift, dot-shift}
 use Rattle.duality.proofs.Sums.{∑-cong}
 use Rattle.job.specs.Bounds.{In-bounds}
 use Rattle.job.specs.Numbers.{problemOf}
-use Rattle.job.specs.Points.{gradient}
+use Rattle.job.specs.Points.{aPoint, gradient}
 use Rattle.job.specs.Rows.{excess, outside}
+use Rattle.job.specs.Tests.{within, allWithin}
 use Rattle.job.specs.declared.numbers.Job.{Job}
 use Rattle.job.proofs.Bits.{back}
 use Rattle.job.proofs.Gradient.{gradient-shift, cost-by-gradient}
 use Rattle.job.proofs.Reading.{l-small, u-small, row-small, gradient-small}
+use Rattle.job.proofs.Tests.{all-from}
 use Rattle.walk.specs.Running.{Tracks, Tame, outsideAfter, gainOf, Raised, Shifted}
 use Rattle.walk.specs.declared.running.Running.{Running}
 
@@ -123,3 +127,8 @@ shifted-is j s k d e o xs ys us vs fo ed ex lx rx eu lu ru eo =
 
 pub shifted-by : (j : Job) (s s′ : Running) (k : ℕ) (d e : ℤ) → d ≡ e → Shifted j s s′ k d → Shifted j s s′ k e
 shifted-by j s s′ k d e eq h = subst (λ (v : ℤ). Shifted j s s′ k v) eq h
+
+pub a-point : (j : Job) (z : List ℤ) → In-bounds j z → aPoint (j .ropes) 32768 z ≡ true
+a-point j z h =
+    and-from (eqb (length z) (j .ropes)) (allWithin 32768 z) (eq-eqb _ _ (h .long))
+    (all-from (λ k. within 32768 (places z k)) (length z) (λ k _. le-leb _ _ (point-small j z h k)))
