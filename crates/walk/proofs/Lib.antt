@@ -1,0 +1,15 @@
+pub mod Sizes
+pub mod Gaining
+pub mod Ticks
+pub mod Following
+pub mod Looking
+pub mod Raising
+pub mod Listing
+pub mod Tried
+pub mod Firsts
+pub mod AlongSizes
+pub mod AlongRopes
+pub mod Each
+pub mod Steps
+pub mod Turns
+pub mod Lawful
