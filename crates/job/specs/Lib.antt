@@ -1,0 +1,6 @@
+pub mod Tests
+pub mod Numbers
+pub mod Strides
+pub mod Points
+pub mod Rows
+pub mod Bounds

@@ -1,0 +1,36 @@
+//! Which row a point breaks.
+ghost use mathlib.Core.Path.{_≡_};
+ghost use mathlib.Core.Bool.{cond};
+ghost use Rattle.duality.specs.Lists.{places};
+ghost use Rattle.job.specs.Numbers.{problemOf};
+ghost use Rattle.job.specs.Points.{aPoint};
+ghost use Rattle.job.specs.Rows.{judged};
+ghost use Rattle.job.specs.Tests.{between as betweenOf};
+use crate::checks::is_point;
+use crate::numbers::Job;
+use crate::scores::ROUNDED_LIMIT;
+use crate::verdict::Verdict;
+
+pub(crate) fn between(low: i64, high: i64, x: i64) -> bool
+    ensures { λ r. ⌜ r ≡ betweenOf low high x ⌝ }
+{
+    low <= x && x <= high
+}
+
+impl Job {
+    /// The first row that z breaks, if any; it must be a list of as many numbers as there are ropes, within ±1,073,741,824.
+    pub fn judge(&self, z: &[i64]) -> Verdict
+        ensures { λ r. ⌜ r ≡ cond (aPoint (now (self .entry) .ropes) 1073741824 (now (z .entry)))
+            (judged (problemOf (now (self .entry))) (places (now (z .entry)))) Verdict.NoPoint ⌝ }
+    {
+        if !is_point(self.ropes, ROUNDED_LIMIT, z) {
+            return Verdict::NoPoint;
+        }
+        for i in 0..self.rows {
+            if !between(self.lo[i], self.hi[i], self.row_at(i, z)) {
+                return Verdict::Broken(i);
+            }
+        }
+        Verdict::Met
+    }
+}

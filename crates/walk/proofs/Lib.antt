@@ -1,0 +1,4 @@
+pub mod Sizes
+pub mod Gaining
+pub mod Ticks
+pub mod Looking

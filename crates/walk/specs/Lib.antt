@@ -1,0 +1,5 @@
+pub mod Moves
+pub mod Lowering
+pub mod Walks
+pub mod Laws
+pub mod Running
