@@ -60,3 +60,43 @@ def walk(job, z, budget):
         if moves == budget:
             return moves, "spent", z
         z, moves = w, moves + 1
+
+
+LEAST, MOST = 2.0**-20, 2.0**60
+BOUND = float(2**30)
+
+
+def solve_system(lines, smallest):
+    """(smallest pivot size, unknowns or None) of lines of n coefficients and a right side."""
+    lines = [list(line) for line in lines]
+    n = len(lines)
+    for k in range(n):
+        size, place = 0.0, k
+        for i in range(k, n):
+            if abs(lines[i][k]) > size:
+                size, place = abs(lines[i][k]), i
+        if not LEAST < size < MOST:
+            return smallest, None
+        smallest = min(smallest, size)
+        lines[k], lines[place] = lines[place], lines[k]
+        for i in range(k + 1, n):
+            f = lines[i][k] / lines[k][k]
+            for j in range(k + 1, n + 1):
+                lines[i][j] = lines[i][j] - f * lines[k][j]
+    unknowns = [0.0] * n
+    for k in range(n - 1, -1, -1):
+        right = lines[k][n]
+        for j in range(k + 1, n):
+            right = right - lines[k][j] * unknowns[j]
+        unknowns[k] = right / lines[k][k]
+        if not abs(unknowns[k]) < BOUND:
+            return smallest, None
+    return smallest, unknowns
+
+
+def nearest(x):
+    """To the nearest whole number, halves away from zero; exact, since x times 2 is."""
+    whole = int(abs(x))
+    if abs(x) - whole >= 0.5:
+        whole += 1
+    return whole if x >= 0 else -whole

@@ -1,8 +1,13 @@
-//! Runs the walk on jobs that an outside program made, a job to a line, and prints what comes out.
+//! Runs the two halves of the solver on cases that an outside program made, a case to a line, and prints what comes out.
 //!
-//! A line has the number of ropes, rows and moves, and then G row by row, c, A rope by rope, the limits lo and hi,
-//! the bounds l and u, and the point that the walk starts from.
+//! A line that begins with 0 is a walk: the number of ropes, rows and moves, and then G row by row, c, A rope by rope,
+//! the limits lo and hi, the bounds l and u, and the point that the walk starts from.
+//! One that begins with 1 is a system: the number of unknowns, and then line by line its coefficients and the right side,
+//! each float as m and e for m times 2 to the e. Floats are answered by their 64 bits.
 
+use elimination::Solution;
+use elimination::nearest;
+use elimination::solve;
 use job::Job;
 use std::alloc::AllocError;
 use std::alloc::Global;
@@ -10,6 +15,7 @@ use std::error::AnyError;
 use std::io;
 use std::io::BufRead;
 use std::io::BufReader;
+use std::num::nearest_i64_to_f64;
 use walk::End;
 use walk::Walked;
 use walk::walk;
@@ -29,14 +35,18 @@ struct Line<'a> {
 }
 
 impl<'a> Line<'a> {
-    fn size(&mut self) -> usize {
+    fn number(&mut self) -> i64 {
         match self.left.split_first() {
             Some((first, rest)) => {
                 self.left = rest;
-                usize::try_from(*first).unwrap_or(0)
+                *first
             }
             None => 0,
         }
+    }
+
+    fn size(&mut self) -> usize {
+        usize::try_from(self.number()).unwrap_or(0)
     }
 
     fn list(&mut self, heap: Global, count: usize) -> Result<Vec<i64>, AllocError> {
@@ -59,7 +69,53 @@ fn print_walk(rt: &LibcRuntime, walked: &Walked, point: &[i64]) -> io::Result<()
     println!(rt, "")
 }
 
-fn run_job(rt: &LibcRuntime, heap: Global, line: &mut Line) -> Result<(), AnyError> {
+/// m times 2 to the e, for an m of at most 53 bits and a product that is no subnormal.
+fn scaled(m: i64, e: i64) -> f64 {
+    let mut x = nearest_i64_to_f64(m);
+    for _ in 0..e {
+        x *= 2.0;
+    }
+    for _ in e..0 {
+        x *= 0.5;
+    }
+    x
+}
+
+fn bits(x: f64) -> u64 {
+    if x.is_nan() { 0 } else { x.to_bits() }
+}
+
+fn print_solution(rt: &LibcRuntime, n: usize, solution: &Solution) -> io::Result<()> {
+    let smallest = bits(solution.smallest);
+    let Some(unknowns) = solution.unknowns else {
+        return println!(rt, "stuck {smallest}");
+    };
+    print!(rt, "solved {smallest}")?;
+    for k in 0..n.min(32) {
+        let bits = bits(unknowns[k]);
+        let whole = nearest(unknowns[k]);
+        print!(rt, " {bits} {whole}")?;
+    }
+    println!(rt, "")
+}
+
+fn run_system(rt: &LibcRuntime, line: &mut Line) -> io::Result<()> {
+    let n = line.size();
+    let mut lines = [[0.0; 33]; 32];
+    if n <= 32 {
+        for i in 0..n {
+            for j in 0..n + 1 {
+                let m = line.number();
+                let e = line.number();
+                lines[i][j] = scaled(m, e);
+            }
+        }
+    }
+    let most = scaled(1, 60);
+    print_solution(rt, n, &solve(lines, n, most))
+}
+
+fn run_walk(rt: &LibcRuntime, heap: Global, line: &mut Line) -> Result<(), AnyError> {
     let n = line.size();
     let m = line.size();
     let budget = u32::try_from(line.size()).unwrap_or(0);
@@ -88,7 +144,11 @@ fn run(rt: &LibcRuntime) -> Result<(), AnyError> {
         let text = text?;
         let numbers = numbers(heap, text.as_str())?;
         let mut line = Line { left: numbers.as_slice() };
-        run_job(rt, heap, &mut line)?;
+        if line.number() == 0 {
+            run_walk(rt, heap, &mut line)?;
+        } else {
+            run_system(rt, &mut line)?;
+        }
     }
     Ok(())
 }
