@@ -1,10 +1,9 @@
 -- What passed tests say of the numbers of a job.
 use Prim.Native.Nat.{ℕ, _*_, _<_, _≤_}
-use mathlib.Core.Bool.{Bool, true, _&&_}
+use mathlib.Core.Bool.{true}
 use mathlib.Core.List.{List}
 use mathlib.Core.Path.{_≡_}
 use lib.IntN.{ℤ}
-use lib.Dec.{leb, ltb, eqb}
 use Rattle.std.proofs.shelf.Tests.{and-parts, ltb-true, leb-true, eqb-true}
 use Rattle.job.specs.Tests.{allWithin, inOrder}
 use Rattle.job.specs.Numbers.{sizes, limited}

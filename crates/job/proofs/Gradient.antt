@@ -1,15 +1,17 @@
 -- One rope moves: the gradient and the cost from those before, for any G.
 use Prim.Native.Nat.{ℕ, _<_}
-use mathlib.Core.Path.{_≡_, ap, sym, _∙_}
+use mathlib.Core.Path.{_≡_, refl, ap, sym, _∙_}
 use native.Mathlib.Omega.{arith}
+use lib.Dec.{eqb}
 use lib.IntN.{ℤ, pos, _+ℤ_, _*ℤ_}
-use Rattle.duality.specs.Sums.{Vector, ∑, dot, row, column, quad}
+use Rattle.std.proofs.shelf.Tests.{eq-eqb, ne-eqb, cond-true, cond-false}
+use Rattle.duality.specs.Sums.{Vector, dot, row, column, quad}
 use Rattle.duality.specs.Problem.{Problem, cost}
 use Rattle.duality.proofs.Ring.{lin, ring, *ℤ-assoc, *ℤ-distr}
 use Rattle.duality.proofs.Sums.{∑-cong, ∑-scaled}
 use Rattle.duality.proofs.Forms.{dot-comm, dot-add, form-rows}
 use Rattle.duality.proofs.Shifts.{Shift, dot-shift}
-use Rattle.job.specs.Points.{gradient}
+use Rattle.job.specs.Points.{gradient, nudged, Cost-change}
 
 module _ (P : Problem) (j : ℕ) (d : ℤ) (x y : Vector) (s : Shift (P .ropes) j d x y) where
   row-shift : (i : ℕ) → row (P .ropes) (P .G) y i ≡ row (P .ropes) (P .G) x i +ℤ P .G i j *ℤ d
@@ -54,3 +56,14 @@ module _ (P : Problem) (j : ℕ) (d : ℤ) (x y : Vector) (s : Shift (P .ropes) 
       put : (Qy Qx Ly Lx r k c g : ℤ) → Qy ≡ Qx +ℤ (r *ℤ d +ℤ (k +ℤ g *ℤ d) *ℤ d) → Ly ≡ Lx +ℤ c *ℤ d →
           Qy +ℤ pos 2 *ℤ Ly ≡ (Qx +ℤ pos 2 *ℤ Lx) +ℤ d *ℤ ((r +ℤ k +ℤ pos 2 *ℤ c) +ℤ g *ℤ d)
       put Qy Qx Ly Lx r k c g e f = rw (e, f) (simp ring (omega (arith, lin)))
+
+-- Law: the change of the cost, from the gradient.
+pub cost-change : (P : Problem) (z : Vector) (j : ℕ) (g : ℤ) → j < P .ropes → g ≡ gradient P z j → Cost-change P z j g
+cost-change P z j g l e d =
+    cost-by-gradient P j d z (nudged z j d)
+    (record {
+      inside = l;
+      at = cond-true (eqb j j) (z j +ℤ d) (z j) (eq-eqb j j refl);
+      off = λ k _ ne. cond-false (eqb k j) (z k +ℤ d) (z k) (ne-eqb k j ne);
+    })
+    ∙ ap (λ (t : ℤ). cost P z +ℤ d *ℤ (t +ℤ P .G j j *ℤ d)) (sym e)

@@ -1,16 +1,15 @@
 -- Points inside their bounds, and points held there.
 use Prim.Native.Nat.{ℕ, _+_, _≤_, _<_}
-use mathlib.Core.Bool.{Bool, true, false, cond, _&&_}
+use mathlib.Core.Bool.{Bool, true, false}
 use mathlib.Core.List.{List, map}
 use mathlib.Core.Logic.{_≢_, ⊎-elim}
-use mathlib.Core.Path.{_≡_, refl, sym, ap, _∙_}
+use mathlib.Core.Path.{_≡_, sym, ap, _∙_}
 use native.Mathlib.Omega.{arith}
 use lib.Dec.{eqb}
 use lib.IntN.{ℤ, pos}
 use lib.ListN.{length, set}
 use lib.Signed.{_≤ℤ_}
 use Rattle.std.specs.Iters.{counting}
-use Rattle.std.specs.Numbers.{maxZ, minZ}
 use Rattle.std.specs.Orderings.{Decides}
 use Rattle.std.proofs.shelf.Counted.{fill-by-all}
 use Rattle.std.proofs.shelf.Lists.{getD-set-same, getD-set-other}
@@ -44,7 +43,7 @@ module _ (j : Job) where
   in-bounds-out z e =
       let p = and-parts (eqb (length z) (j .ropes)) (all (lies z) (j .ropes)) e in
       let at : (k : ℕ) → k < j .ropes → lies z k ≡ true =
-          λ k l. all-at (lies z) (j .ropes) k (p .1) l in
+      λ k l. all-at (lies z) (j .ropes) k (p .1) l in
       record {
         long = eqb-true _ _ (p .0);
         not-below = λ k l. between-parts _ _ _ (at k l) .0;
@@ -74,15 +73,16 @@ module _ (j : Job) where
 
   pub held-more : (z y : List ℤ) (i : ℕ) (v : ℤ) → i < length y → Held-below z y i → v ≡ held (problemOf j .l i) (problemOf j .u i) (places y i) →
       Held-below z (set y i v) (i + 1)
-  held-more z y i v l h e =
-      ( λ k m.
-          ⊎-elim
-          (λ (lt : k < i). let ne : k ≢ i = omega arith in getD-set-other y i k v (pos 0) ne ∙ h .0 k lt)
-          (λ (ge : i ≤ k).
-             let q : k ≡ i = omega arith in
-             rw q (getD-set-same y i v (pos 0) l ∙ e ∙ ap (held (problemOf j .l i) (problemOf j .u i)) (h .1 i (omega arith))))
-          (cases-lt k i)
-      , λ k m. let ne : k ≢ i = omega arith in getD-set-other y i k v (pos 0) ne ∙ h .1 k (omega arith) )
+  held-more z y i v l h e = (
+    λ k m.
+        ⊎-elim
+        (λ (lt : k < i). let ne : k ≢ i = omega arith in getD-set-other y i k v (pos 0) ne ∙ h .0 k lt)
+        (λ (ge : i ≤ k).
+        let q : k ≡ i = omega arith in
+        rw q (getD-set-same y i v (pos 0) l ∙ e ∙ ap (held (problemOf j .l i) (problemOf j .u i)) (h .1 i (omega arith))))
+        (cases-lt k i),
+    λ k m. let ne : k ≢ i = omega arith in getD-set-other y i k v (pos 0) ne ∙ h .1 k (omega arith),
+  )
 
   pub held-all : (z y : List ℤ) (i : ℕ) → length z ≡ j .ropes → length y ≡ length z → j .ropes ≤ i → Held-below z y i → y ≡ clamped j z
   held-all z y i lz ly le h =

@@ -1,16 +1,15 @@
 -- The ticks outside, as a loop adds them up, and the law of them.
-use Prim.Native.Nat.{ℕ, _+_, _*_, _^_, _≤_, _<_}
-use mathlib.Core.Bool.{Bool, true}
+use Prim.Native.Nat.{ℕ, _+_, _*_, _^_, _≤_}
+use mathlib.Core.Bool.{Bool, true, false}
 use mathlib.Core.List.{List}
 use mathlib.Core.Path.{_≡_, ap, sym, _∙_}
 use native.Mathlib.Nat.{mul-le-mul, le-refl}
 use native.Mathlib.Omega.{arith}
-use lib.IntN.{ℤ, pos, natAbs, _+ℤ_, _-ℤ_}
+use lib.IntN.{ℤ, pos, natAbs, _+ℤ_}
 use lib.Signed.{_≤ℤ_}
 use mir.Syntax.{w64}
-use mir.Val.{SFits}
-use Rattle.std.specs.Numbers.{maxZ}
 use Rattle.std.proofs.shelf.Signed.{toZ-ofZ, clamps}
+use Rattle.std.proofs.shelf.Tests.{both-ways}
 use Rattle.duality.specs.Lists.{places}
 use Rattle.duality.specs.Sums.{Vector, ∑}
 use Rattle.duality.specs.Problem.{Problem, rowAt}
@@ -19,10 +18,11 @@ use Rattle.duality.proofs.Sums.{∑-more, ∑-cong, ∑-zero, ∑-pick}
 use Rattle.duality.proofs.Sizes.{sizes, small-add, small-∑}
 use Rattle.job.specs.Numbers.{problemOf}
 use Rattle.job.specs.Points.{aPoint}
-use Rattle.job.specs.Rows.{excess, outside, Rows-met, Met-inside, meets}
+use Rattle.job.specs.Rows.{excess, outside, Row-met, Rows-met, Met-inside, meets}
 use Rattle.job.specs.Tests.{between}
 use Rattle.job.specs.declared.numbers.Job.{Job}
 use Rattle.job.proofs.Bits.{back, fits, back-of}
+use Rattle.job.proofs.Tests.{between-parts, between-from}
 use Rattle.job.proofs.Reading.{lo-small, hi-small, point-small, row-small}
 
 pub excess-small : (low high s : ℤ) (b c : ℕ) → natAbs low ≤ b → natAbs high ≤ b → natAbs s ≤ c → natAbs (excess low high s) ≤ b + c
@@ -72,6 +72,12 @@ part-is j z i low high s r el eh es er = cc
 pub meets-is : (j : Job) (z : List ℤ) (i : ℕ) (low high s : ℤ) (b : Bool) → low ≡ problemOf j .lo i → high ≡ problemOf j .hi i → s ≡ rowAt (problemOf j) (places z) i →
     b ≡ between low high s → meets (problemOf j) (places z) i ≡ b
 meets-is j z i low high s b el eh es e = cc
+
+pub row-met : (P : Problem) (z : Vector) (i : ℕ) → meets P z i ≡ true → Row-met P z i
+row-met P z i e = between-parts (P .lo i) (P .hi i) (rowAt P z i) e
+
+pub row-broken : (P : Problem) (z : Vector) (i : ℕ) → meets P z i ≡ false → Row-met P z i → ⊥
+row-broken P z i e h = both-ways (meets P z i) e (between-from (P .lo i) (P .hi i) (rowAt P z i) (h .0) (h .1))
 
 module _ (j : Job) (z : List ℤ) (p : aPoint (j .ropes) 32768 z ≡ true) where
   pub row-at-small : (i : ℕ) → natAbs (rowAt (problemOf j) (places z) i) ≤ 2 ^ 39

@@ -11,9 +11,9 @@ use lib.ListN.{length, getD}
 use Rattle.std.specs.Of.Vec.{vec-items, vec-len}
 use Rattle.std.specs.declared.option.Option.the-variants.{Some, None}
 use Rattle.std.proofs.shelf.Tests.{and-parts, and-from, eqb-true, eq-eqb, le-leb, cond-true}
-use Rattle.duality.specs.Lists.{places, by-rows}
-use Rattle.duality.specs.Sums.{Vector, ∑, dot, row, column}
-use Rattle.duality.specs.Problem.{Problem, rowAt}
+use Rattle.duality.specs.Lists.{places}
+use Rattle.duality.specs.Sums.{Vector, dot, row, column}
+use Rattle.duality.specs.Problem.{rowAt}
 use Rattle.duality.proofs.Sums.{∑-cong}
 use Rattle.duality.proofs.Sizes.{small-add, small-mul, small-dot}
 use Rattle.duality.proofs.Forms.{dot-comm}

@@ -1,25 +1,29 @@
 -- The cost and the gradient, as loops and sums of small numbers give them.
-use Prim.Native.Nat.{ℕ, _+_, _*_, _^_, _≤_, _<_}
+use Prim.Native.Nat.{ℕ, _+_, _*_, _^_, _≤_}
 use mathlib.Core.Bool.{true}
 use mathlib.Core.List.{List}
 use mathlib.Core.Path.{_≡_, ap, sym, _∙_}
 use native.Mathlib.Nat.{mul-le-mul, le-refl}
 use native.Mathlib.Omega.{arith}
+use lib.Dec.{lit≤, lit<}
 use lib.IntN.{ℤ, pos, natAbs, _+ℤ_, _*ℤ_}
+use lib.ListN.{length}
 use mir.Syntax.{w64}
 use mir.Val.{SFits}
+use Rattle.std.specs.Of.Vec.{vec-items}
 use Rattle.std.proofs.shelf.Signed.{toZ-ofZ}
 use Rattle.duality.specs.Lists.{places}
-use Rattle.duality.specs.Sums.{Vector, ∑, row, column}
+use Rattle.duality.specs.Sums.{Vector, ∑, dot, row, column}
 use Rattle.duality.specs.Problem.{cost}
 use Rattle.duality.proofs.Sums.{∑-more}
 use Rattle.duality.proofs.Sizes.{small-add, small-mul, small-∑}
 use Rattle.duality.proofs.Costs.{cost-rows}
 use Rattle.job.specs.Numbers.{problemOf}
 use Rattle.job.specs.Points.{aPoint, gradient}
+use Rattle.job.specs.Strides.{strided}
 use Rattle.job.specs.declared.numbers.Job.{Job}
-use Rattle.job.proofs.Bits.{back, fits, back-is, back-of}
-use Rattle.job.proofs.Reading.{c-small, point-small, along-small, across-small, gradient-small}
+use Rattle.job.proofs.Bits.{back, back-is, back-of}
+use Rattle.job.proofs.Reading.{along-is, across-is, c-small, point-small, along-small, across-small, gradient-small}
 
 -- rope i's part of the cost
 abbrev pub cost-part : Job → List ℤ → Vector
@@ -29,11 +33,14 @@ module _ (j : Job) (z : List ℤ) (p : aPoint (j .ropes) 32768 z ≡ true) where
   small : (k : ℕ) → natAbs (places z k) ≤ 32768
   small = point-small (j .ropes) 32768 z p
 
-  pub along-back : (i : ℕ) (r : ℤ) → r ≡ row (j .ropes) (problemOf j .G) (places z) i → back r ≡ row (j .ropes) (problemOf j .G) (places z) i
-  along-back i r e = back-of (2 ^ 39) r _ e (along-small j (places z) i small) (omega arith)
+  -- the sums along row i and across column i of G, as the next call takes them
+  pub along-back : (i : ℕ) (xs : List ℤ) (r : ℤ) → xs ≡ vec-items (j .g) → r ≡ dot (length z) (strided xs (i * j .ropes) 1) (places z) →
+      back r ≡ row (j .ropes) (problemOf j .G) (places z) i
+  along-back i xs r e er = back-of (2 ^ 39) r _ (er ∙ along-is j z 32768 (lit≤ tt) p i xs e) (along-small j (places z) i small) (lit< tt)
 
-  pub across-back : (i : ℕ) (r : ℤ) → r ≡ column (j .ropes) (problemOf j .G) (places z) i → back r ≡ column (j .ropes) (problemOf j .G) (places z) i
-  across-back i r e = back-of (2 ^ 39) r _ e (across-small j (places z) i small) (omega arith)
+  pub across-back : (i : ℕ) (xs : List ℤ) (r : ℤ) → xs ≡ vec-items (j .g) → r ≡ dot (length z) (strided xs i (j .ropes)) (places z) →
+      back r ≡ column (j .ropes) (problemOf j .G) (places z) i
+  across-back i xs r e er = back-of (2 ^ 39) r _ (er ∙ across-is j z 32768 (lit≤ tt) p i xs e) (across-small j (places z) i small) (lit< tt)
 
   -- the gradient
   pub both-small : (i : ℕ) (x y : ℤ) → x ≡ row (j .ropes) (problemOf j .G) (places z) i → y ≡ column (j .ropes) (problemOf j .G) (places z) i → natAbs (x +ℤ y) ≤ 2 ^ 40

@@ -10,7 +10,7 @@ use mir.Syntax.{w64}
 use mir.Val.{SFits}
 use Rattle.std.proofs.shelf.Signed.{toZ-ofZ}
 use Rattle.duality.specs.Lists.{places}
-use Rattle.duality.specs.Sums.{∑, dot}
+use Rattle.duality.specs.Sums.{dot}
 use Rattle.duality.proofs.Sizes.{small-mul, small-dot}
 use Rattle.duality.proofs.Sums.{∑-more}
 use Rattle.job.specs.Strides.{strided, Reads}

@@ -1,6 +1,6 @@
 -- Tests over places: a loop's step, its exits, and what a passed test says of each place.
 use Prim.Native.Nat.{ℕ, zero, suc, _+_, _<_, _≤_}
-use mathlib.Core.Bool.{Bool, true, false, _&&_}
+use mathlib.Core.Bool.{Bool, true, false}
 use mathlib.Core.List.{List}
 use mathlib.Core.Logic.{⊎-elim}
 use mathlib.Core.Path.{_≡_, refl, ap}
@@ -50,6 +50,20 @@ first-at p i (suc n) e f h =
     (λ (lt : i < n). let d : firstNot p n ≡ Some i = first-at p i n e f lt in cc)
     (λ (le : n ≤ i). let q : n ≡ i = omega arith in let d : firstNot p n ≡ None = rw q e in let t : p n ≡ false = rw q f in cc)
     (cases-lt i n)
+
+pub first-none : (p : ℕ → Bool) (n k : ℕ) → firstNot p n ≡ None → k < n → p k ≡ true
+first-none p zero k e l = absurd (omega arith)
+first-none p (suc n) k e l =
+    let h = passed (firstNot p n) (p n) n e in
+    ⊎-elim
+    (λ (lt : k < n). first-none p n k (h .0) lt)
+    (λ (le : n ≤ k). let q : k ≡ n = omega arith in rw q (h .1))
+    (cases-lt k n)
+  where
+    passed : (o : Option ℕ) (b : Bool) (n : ℕ) → orHere o b n ≡ None → (o ≡ None) × (b ≡ true)
+    passed None true n e = (refl, refl)
+    passed None false n e = let c : _≡_ {A = ℕ} 0 1 = cc in absurd (omega arith)
+    passed (Some k) b n e = let c : _≡_ {A = ℕ} 0 1 = cc in absurd (omega arith)
 
 -- past the end a list has 0, so a limit holds of every place
 pub within-at : (limit : ℕ) (xs : List ℤ) (k : ℕ) → allWithin limit xs ≡ true → natAbs (places xs k) ≤ limit

@@ -11,7 +11,7 @@ use Rattle.duality.specs.Sums.{Vector, ∑}
 use Rattle.duality.specs.Problem.{Problem, rowAt}
 use Rattle.job.specs.Tests.{firstNot, between}
 use Rattle.job.specs.declared.verdict.Verdict.{Verdict}
-use Rattle.job.specs.declared.verdict.Verdict.the-variants.{Met, Broken}
+use Rattle.job.specs.declared.verdict.Verdict.the-variants.{Met, Broken, NoPoint}
 
 -- how many ticks s lies below low or above high
 unfoldable pub excess : ℤ → ℤ → ℤ → ℤ
@@ -21,8 +21,11 @@ excess low high s = maxZ (pos 0) (maxZ (low -ℤ s) (s -ℤ high))
 unfoldable pub outside : Problem → Vector → ℤ
 outside P z = ∑ (P .rows) (λ i. excess (P .lo i) (P .hi i) (rowAt P z i))
 
+abbrev pub Row-met : Problem → Vector → ℕ → Type 0
+Row-met P z i = (P .lo i ≤ℤ rowAt P z i) × (rowAt P z i ≤ℤ P .hi i)
+
 abbrev pub Rows-met : Problem → Vector → Type 0
-Rows-met P z = (i : ℕ) → i < P .rows → (P .lo i ≤ℤ rowAt P z i) × (rowAt P z i ≤ℤ P .hi i)
+Rows-met P z = (i : ℕ) → i < P .rows → Row-met P z i
 
 -- Law: a point lies no tick outside exactly if it meets every row.
 abbrev pub Met-inside : Problem → Vector → ℤ → Type 0
@@ -38,3 +41,9 @@ verdict (Some i) = Broken i
 -- the first row that z breaks
 abbrev pub judged : Problem → Vector → Verdict
 judged P z = verdict (firstNot (meets P z) (P .rows))
+
+-- Law: a verdict that names a row names the first one that is not met.
+abbrev pub Judges : Problem → Vector → Verdict → Type 0
+Judges P z Met = Rows-met P z
+Judges P z (Broken i) = (i < P .rows) × (Row-met P z i → ⊥) × ((k : ℕ) → k < i → Row-met P z k)
+Judges P z NoPoint = Unit {0}

@@ -3,9 +3,8 @@ ghost use mathlib.Core.Path.{_≡_};
 ghost use mathlib.Core.Bool.{true};
 ghost use lib.Dec.{eqb};
 ghost use lib.ListN.{length};
-ghost use lib.Signed.{_≤ℤ_};
 ghost use Rattle.job.specs.Bounds.{held as heldOf, clamped, inBounds, In-bounds};
-ghost use Rattle.std.specs.Orderings.{Decides, When};
+ghost use Rattle.std.specs.Orderings.{Decides};
 use crate::judges::between;
 use crate::numbers::Job;
 

@@ -1,11 +1,20 @@
 //! Tests over whole lists.
 ghost use mathlib.Core.Path.{_≡_};
-ghost use Prim.Native.Nat.{ℕ, _*_, _<_, _≤_};
 ghost use mathlib.Core.Bool.{_&&_};
-ghost use lib.Dec.{leb, ltb, eqb};
 ghost use lib.ListN.{length};
 ghost use Rattle.job.specs.Tests.{allWithin, inOrder};
 ghost use Rattle.job.specs.Points.{aPoint};
+
+/// Numbers of G and A.
+pub(crate) const TABLE_LIMIT: u64 = 1_048_576;
+/// Numbers of c.
+pub(crate) const PRICE_LIMIT: u64 = 268_435_456;
+/// Limits of rows.
+pub(crate) const ROW_LIMIT: u64 = 536_870_912;
+/// Bounds, and points whose cost is asked for.
+pub(crate) const PULL_LIMIT: u64 = 32_768;
+/// Points whose row sums are asked for: rounded ones may lie far outside.
+pub(crate) const ROUNDED_LIMIT: u64 = 1_073_741_824;
 
 /// Whether each number lies within ±limit.
 pub(crate) fn all_within(limit: u64, xs: &[i64]) -> bool

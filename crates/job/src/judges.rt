@@ -4,11 +4,11 @@ ghost use mathlib.Core.Bool.{cond};
 ghost use Rattle.duality.specs.Lists.{places};
 ghost use Rattle.job.specs.Numbers.{problemOf};
 ghost use Rattle.job.specs.Points.{aPoint};
-ghost use Rattle.job.specs.Rows.{judged};
+ghost use Rattle.job.specs.Rows.{judged, Judges};
 ghost use Rattle.job.specs.Tests.{between as betweenOf};
+use crate::checks::ROUNDED_LIMIT;
 use crate::checks::is_point;
 use crate::numbers::Job;
-use crate::scores::ROUNDED_LIMIT;
 use crate::verdict::Verdict;
 
 pub(crate) fn between(low: i64, high: i64, x: i64) -> bool
@@ -20,8 +20,9 @@ pub(crate) fn between(low: i64, high: i64, x: i64) -> bool
 impl Job {
     /// The first row that z breaks, if any; it must be a list of as many numbers as there are ropes, within ±1,073,741,824.
     pub fn judge(&self, z: &[i64]) -> Verdict
-        ensures { λ r. ⌜ r ≡ cond (aPoint (now (self .entry) .ropes) 1073741824 (now (z .entry)))
+        ensures value { λ r. ⌜ r ≡ cond (aPoint (now (self .entry) .ropes) 1073741824 (now (z .entry)))
             (judged (problemOf (now (self .entry))) (places (now (z .entry)))) Verdict.NoPoint ⌝ }
+        ensures law { λ r. ⌜ Judges (problemOf (now (self .entry))) (places (now (z .entry))) r ⌝ }
     {
         if !is_point(self.ropes, ROUNDED_LIMIT, z) {
             return Verdict::NoPoint;

@@ -8,18 +8,14 @@ ghost use Rattle.std.specs.Options.{Cases};
 ghost use Rattle.duality.specs.Lists.{places};
 ghost use Rattle.duality.specs.Problem.{rowAt, cost as costOf};
 ghost use Rattle.job.specs.Numbers.{problemOf};
-ghost use Rattle.job.specs.Points.{aPoint, answer, gradient as gradientOf};
+ghost use Rattle.job.specs.Points.{aPoint, answer, gradient as gradientOf, Cost-change};
 ghost use Rattle.job.specs.Rows.{excess as excessOf, outside as outsideOf, Met-inside};
+use crate::checks::PULL_LIMIT;
+use crate::checks::ROUNDED_LIMIT;
 use crate::checks::is_point;
 use crate::numbers::Job;
 use crate::sums::plus_product;
 use crate::sums::strided_dot;
-
-/// Points are offered within this limit.
-pub const PULL_LIMIT: u64 = 32_768;
-
-/// Row sums are wanted of rounded points as well, which may lie far outside.
-pub const ROUNDED_LIMIT: u64 = 1_073_741_824;
 
 /// How many ticks s lies below low or above high.
 pub(crate) fn excess(low: i64, high: i64, s: i64) -> i64
@@ -64,10 +60,13 @@ impl Job {
         }
     }
 
-    /// How steeply the cost rises with rope j at z; nothing without such a rope, or where z is no point within ±32,768.
+    /// How steeply the cost rises with rope j at z: a step d of that rope changes the cost by d (gradient + G_jj d).
+    ///
+    /// Nothing without such a rope, or where z is no point within ±32,768.
     pub fn gradient(&self, j: usize, z: &[i64]) -> Option<i64>
-        ensures { λ r. ⌜ r ≡ answer (ltb j (now (self .entry) .ropes) && aPoint (now (self .entry) .ropes) 32768 (now (z .entry)))
+        ensures value { λ r. ⌜ r ≡ answer (ltb j (now (self .entry) .ropes) && aPoint (now (self .entry) .ropes) 32768 (now (z .entry)))
             (gradientOf (problemOf (now (self .entry))) (places (now (z .entry))) j) ⌝ }
+        ensures law { λ r. ⌜ Cases r (Unit {0}) (λ g. Cost-change (problemOf (now (self .entry))) (places (now (z .entry))) j g) ⌝ }
     {
         if j < self.ropes && is_point(self.ropes, PULL_LIMIT, z) {
             let along = strided_dot(&self.g, j * self.ropes, 1, z);

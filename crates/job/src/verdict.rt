@@ -1,5 +1,5 @@
 /// What a list of numbers does to the rows.
-#[derive(Clone, Copy, PartialEq, Eq)]
+#[derive(Clone, Copy)]
 pub enum Verdict {
     /// Every row's sum lies within its limits.
     Met,

@@ -1,5 +1,5 @@
 -- The running sums follow a move.
-use Prim.Native.Nat.{ℕ, _+_, _*_, _^_, _≤_, _<_}
+use Prim.Native.Nat.{ℕ, _^_, _≤_, _<_}
 use mathlib.Core.Path.{_≡_, refl, sym, ap, subst, _∙_}
 use mathlib.Core.Bool.{true}
 use mathlib.Core.List.{List}
@@ -16,7 +16,6 @@ use Rattle.std.proofs.shelf.Lists.{refilled-is, getD-past}
 use Rattle.std.proofs.shelf.Signed.{ints, toZ-ofZ}
 use Rattle.std.proofs.shelf.Tests.{cases-lt, and-from, eq-eqb, le-leb}
 use Rattle.duality.specs.Lists.{places}
-use Rattle.duality.specs.Sums.{∑}
 use Rattle.duality.specs.Problem.{rowAt, cost}
 use Rattle.duality.proofs.Lists.{set-shift}
 use Rattle.duality.proofs.Shifts.{Shift, dot-shift}
@@ -42,11 +41,11 @@ pub point-small : (j : Job) (z : List ℤ) → In-bounds j z → (k : ℕ) → n
 point-small j z h k =
     ⊎-elim
     (λ (l : k < j .ropes).
-       let a = h .not-below k l in
-       let b = h .not-above k l in
-       let x = l-small j k in
-       let y = u-small j k in
-       omega (arith, ints))
+    let a = h .not-below k l in
+    let b = h .not-above k l in
+    let x = l-small j k in
+    let y = u-small j k in
+    omega (arith, ints))
     (λ (l : j .ropes ≤ k). past-small z k 32768 (omega (arith, h .long)))
     (cases-lt k (j .ropes))
 

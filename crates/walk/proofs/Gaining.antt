@@ -1,14 +1,11 @@
 -- How the cost changes with one rope, as 64-bit numbers give it.
-use Prim.Native.Nat.{ℕ, _+_, _*_, _^_, _≤_}
+use Prim.Native.Nat.{_^_, _≤_}
 use mathlib.Core.Path.{_≡_, ap, _∙_}
 use native.Mathlib.Omega.{arith}
-use lib.Dec.{lit≤, lit<}
+use lib.Dec.{lit<}
 use lib.IntN.{ℤ, natAbs, _+ℤ_, _*ℤ_}
-use mir.Syntax.{w64}
-use mir.Val.{SFits}
-use Rattle.std.proofs.shelf.Signed.{toZ-ofZ}
 use Rattle.duality.proofs.Sizes.{small-add, small-mul}
-use Rattle.job.proofs.Bits.{back, fits, back-is, back-of}
+use Rattle.job.proofs.Bits.{back, back-is, back-of}
 use Rattle.walk.specs.Running.{gainOf}
 
 module _ (slope curve d : ℤ) (hs : natAbs slope ≤ 2 ^ 41) (hc : natAbs curve ≤ 1048576) (hd : natAbs d ≤ 16384) where

@@ -1,26 +1,23 @@
 -- The laws of a walk, from its definition.
-use Prim.Native.Nat.{ℕ, zero, suc, _+_, _≤_, _<_}
-use mathlib.Core.Path.{_≡_, refl, sym, ap, subst, _∙_}
-use mathlib.Core.Logic.{_⊎_, inl, inr}
+use Prim.Native.Nat.{ℕ, zero, suc, _+_, _≤_}
+use mathlib.Core.Path.{_≡_, refl, sym, subst, _∙_}
+use mathlib.Core.Logic.{inl, inr}
 use mathlib.Core.List.{List}
 use mathlib.Core.Bool.{cond}
 use native.Mathlib.Omega.{arith}
 use native.Mathlib.Numerals.{add-one}
 use lib.IntN.{ℤ}
-use lib.Signed.{_<ℤ_, _≤ℤ_}
 use Rattle.std.specs.Options.{isSome}
 use Rattle.std.specs.declared.option.Option.{Option}
 use Rattle.std.specs.declared.option.Option.the-variants.{Some, None}
-use Rattle.std.proofs.shelf.Signed.{ints}
 use Rattle.duality.specs.Lists.{places}
 use Rattle.duality.specs.Sums.{Vector}
-use Rattle.duality.specs.Problem.{Problem, cost}
+use Rattle.duality.specs.Problem.{Problem}
 use Rattle.duality.proofs.Ring.{lin}
 use Rattle.job.specs.Bounds.{In-bounds}
 use Rattle.job.specs.Numbers.{problemOf}
-use Rattle.job.specs.Rows.{outside}
 use Rattle.job.specs.declared.numbers.Job.{Job}
-use Rattle.walk.specs.Laws.{Descent, Downhill, No-worse, Lawful}
+use Rattle.walk.specs.Laws.{Downhill, No-worse, Lawful}
 use Rattle.walk.specs.Lowering.{Below}
 use Rattle.walk.specs.Moves.{after}
 use Rattle.walk.specs.Walks.{firstMove, Ended, onward, walkFrom, ended}
@@ -75,10 +72,11 @@ walks-on j b z ih None e = (refl, omega arith, e)
 walks-on j b z ih (Some m) e =
     let w = walkFrom j b (after z m) in
     let h = ih (after z m) in
-    let s = found-descends j z m e in
-    ( subst (λ (n : ℕ). Downhill j z n (w .point)) (sym (add-one (w .moves))) ((m, s .0, s .1), h .0)
-    , omega (arith, h .1)
-    , ends-more j b (w .point) (w .moves) (w .end) (h .2) )
+    let s = found-descends j z m e in (
+      subst (λ (n : ℕ). Downhill j z n (w .point)) (sym (add-one (w .moves))) ((m, s .0, s .1), h .0),
+      omega (arith, h .1),
+      ends-more j b (w .point) (w .moves) (w .end) (h .2),
+    )
 
 walks : (j : Job) (b : ℕ) (z : List ℤ) → Walks j b z (walkFrom j b z)
 unfolding walkFrom

@@ -21,14 +21,15 @@ pub lists-none : (xs : List ℤ) (v : Vector) → xs ≡ [] → Lists 0 xs v
 lists-none xs v e = (ap length e, λ k l. absurd (omega arith))
 
 pub lists-more : (n : ℕ) (xs ys : List ℤ) (v : Vector) (x : ℤ) → Lists n xs v → ys ≡ xs ++ x ∷ [] → x ≡ v n → Lists (n + 1) ys v
-lists-more n xs ys v x h e ex =
-    ( ap length e ∙ length-push xs x ∙ ap (λ (k : ℕ). k + 1) (h .0)
-    , λ k l.
-        ap (λ (zs : List ℤ). places zs k) e
-        ∙ ⊎-elim
-          (λ (lt : k < n). getD-append-left xs (x ∷ []) (pos 0) k (omega (arith, h .0)) ∙ h .1 k lt)
-          (λ (ge : n ≤ k). let q : k ≡ n = omega arith in getD-push xs x (pos 0) k (h .0 ∙ sym q) ∙ ex ∙ ap v (sym q))
-          (cases-lt k n) )
+lists-more n xs ys v x h e ex = (
+  ap length e ∙ length-push xs x ∙ ap (λ (k : ℕ). k + 1) (h .0),
+  λ k l.
+      ap (λ (zs : List ℤ). places zs k) e
+      ∙ ⊎-elim
+      (λ (lt : k < n). getD-append-left xs (x ∷ []) (pos 0) k (omega (arith, h .0)) ∙ h .1 k lt)
+      (λ (ge : n ≤ k). let q : k ≡ n = omega arith in getD-push xs x (pos 0) k (h .0 ∙ sym q) ∙ ex ∙ ap v (sym q))
+      (cases-lt k n),
+)
 
 pub lists-all : (i n : ℕ) (xs : List ℤ) (v : Vector) → i ≡ n → Lists i xs v → Lists n xs v
 lists-all i n xs v e h = rw e at h

@@ -43,5 +43,5 @@ looks j z s k d long t l =
     let h = t .slopes-are k l in
     let e = t .outside-is in
     let sh = lower-shift (outside (problemOf j) (places z)) (outside (problemOf j) (places (set z k (places z k +ℤ d)))) (cost (problemOf j) (places z))
-             (gainOf (gradient (problemOf j) (places z) k) (problemOf j .G k k) d) in
+    (gainOf (gradient (problemOf j) (places z) k) (problemOf j .G k k) d) in
     cc

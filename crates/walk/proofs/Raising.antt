@@ -1,5 +1,5 @@
 -- One turn of a loop that raises each number by d times its weight.
-use Prim.Native.Nat.{ℕ, _+_, _*_, _^_, _≤_, _<_}
+use Prim.Native.Nat.{ℕ, _+_, _^_, _≤_, _<_}
 use mathlib.Core.Path.{_≡_, ap, sym, _∙_}
 use mathlib.Core.Logic.{_≢_, ⊎-elim}
 use mathlib.Core.List.{List}
@@ -22,15 +22,16 @@ abbrev pub Raised-below : List ℤ → List ℤ → Vector → ℤ → ℕ → T
 Raised-below xs ys w d i = ((k : ℕ) → k < i → places ys k ≡ places xs k +ℤ w k *ℤ d) × ((k : ℕ) → i ≤ k → places ys k ≡ places xs k)
 
 pub raise-more : (xs ys : List ℤ) (w : Vector) (d v : ℤ) (i : ℕ) → i < length ys → Raised-below xs ys w d i → v ≡ places ys i +ℤ w i *ℤ d → Raised-below xs (set ys i v) w d (i + 1)
-raise-more xs ys w d v i l h e =
-    ( λ k m.
-        ⊎-elim
-        (λ (lt : k < i). let ne : k ≢ i = omega arith in getD-set-other ys i k v (pos 0) ne ∙ h .0 k lt)
-        (λ (ge : i ≤ k).
-           let q : k ≡ i = omega arith in
-           rw q (getD-set-same ys i v (pos 0) l ∙ e ∙ ap (λ (x : ℤ). x +ℤ w i *ℤ d) (h .1 i (omega arith))))
-        (cases-lt k i)
-    , λ k m. let ne : k ≢ i = omega arith in getD-set-other ys i k v (pos 0) ne ∙ h .1 k (omega arith) )
+raise-more xs ys w d v i l h e = (
+  λ k m.
+      ⊎-elim
+      (λ (lt : k < i). let ne : k ≢ i = omega arith in getD-set-other ys i k v (pos 0) ne ∙ h .0 k lt)
+      (λ (ge : i ≤ k).
+      let q : k ≡ i = omega arith in
+      rw q (getD-set-same ys i v (pos 0) l ∙ e ∙ ap (λ (x : ℤ). x +ℤ w i *ℤ d) (h .1 i (omega arith))))
+      (cases-lt k i),
+  λ k m. let ne : k ≢ i = omega arith in getD-set-other ys i k v (pos 0) ne ∙ h .1 k (omega arith),
+)
 
 -- what a turn reads and writes: the number x, its weight w and the step d
 module _ (x w d : ℤ) (hx : natAbs x ≤ 2 ^ 41) (hw : natAbs w ≤ 2097152) (hd : natAbs d ≤ 16384) where

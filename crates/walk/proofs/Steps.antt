@@ -1,20 +1,19 @@
 -- The tests of a move, in words: a move passes exactly if it is a step that lowers.
-use Prim.Native.Nat.{ℕ, _<_, _≤_}
-use mathlib.Core.Path.{_≡_, refl, sym, ap, subst, _∙_}
+use Prim.Native.Nat.{_<_, _≤_}
+use mathlib.Core.Path.{_≡_, refl, sym, ap, _∙_}
 use mathlib.Core.Logic.{_⊎_, inl, inr, ⊎-elim}
 use mathlib.Core.List.{List}
 use mathlib.Core.Bool.{Bool, true, false, cond}
 use native.Mathlib.Omega.{arith}
-use lib.ListN.{length, set}
+use lib.ListN.{length}
 use lib.IntN.{ℤ, pos, natAbs, _+ℤ_}
-use lib.Signed.{ltZ, _<ℤ_, _≤ℤ_}
+use lib.Signed.{ltZ, _<ℤ_}
 use Rattle.std.specs.declared.option.Option.the-variants.{Some, None}
 use Rattle.std.proofs.shelf.Lists.{length-set, getD-set-same, getD-set-other}
 use Rattle.std.proofs.shelf.Signed.{ints}
 use Rattle.std.proofs.shelf.Tests.{cases-bool, cases-eq, both-ways}
 use Rattle.duality.specs.Lists.{places}
-use Rattle.duality.specs.Sums.{Vector}
-use Rattle.duality.specs.Problem.{Problem, cost}
+use Rattle.duality.specs.Problem.{cost}
 use Rattle.job.specs.Bounds.{In-bounds}
 use Rattle.job.specs.Numbers.{problemOf}
 use Rattle.job.specs.Rows.{outside}
@@ -22,7 +21,7 @@ use Rattle.job.specs.declared.numbers.Job.{Job}
 use Rattle.job.proofs.Tests.{between-parts, between-from}
 use Rattle.walk.specs.Lowering.{Below, Step, lower, below, allowed, lowers}
 use Rattle.walk.specs.Laws.{Descent}
-use Rattle.walk.specs.Moves.{sizes, stepOf, after, candidates}
+use Rattle.walk.specs.Moves.{stepOf, after, candidates}
 use Rattle.walk.specs.Walks.{firstMove}
 use Rattle.walk.specs.declared.moves.Move.{Move}
 use Rattle.walk.proofs.Each.{Listed, candidates-listed, each-listed, first-holds, first-none}
@@ -34,14 +33,14 @@ lower-out o q o′ q′ e =
     ⊎-elim
     (λ (y : ltZ o′ o ≡ true). inl (omega (arith, ints)))
     (λ (n : ltZ o′ o ≡ false).
-       ⊎-elim
-       (λ (y : ltZ o o′ ≡ true).
-          let k : false ≡ true = sym (ap (λ (b : Bool). cond b true (cond (ltZ o o′) false (ltZ q′ q))) n ∙ ap (λ (b : Bool). cond b false (ltZ q′ q)) y) ∙ e in
-          absurd (both-ways false refl k))
-       (λ (m : ltZ o o′ ≡ false).
-          let k : ltZ q′ q ≡ true = sym (ap (λ (b : Bool). cond b true (cond (ltZ o o′) false (ltZ q′ q))) n ∙ ap (λ (b : Bool). cond b false (ltZ q′ q)) m) ∙ e in
-          inr (omega (arith, ints), omega (arith, ints)))
-       (cases-bool (ltZ o o′)))
+    ⊎-elim
+    (λ (y : ltZ o o′ ≡ true).
+    let k : false ≡ true = sym (ap (λ (b : Bool). cond b true (cond (ltZ o o′) false (ltZ q′ q))) n ∙ ap (λ (b : Bool). cond b false (ltZ q′ q)) y) ∙ e in
+    absurd (both-ways false refl k))
+    (λ (m : ltZ o o′ ≡ false).
+    let k : ltZ q′ q ≡ true = sym (ap (λ (b : Bool). cond b true (cond (ltZ o o′) false (ltZ q′ q))) n ∙ ap (λ (b : Bool). cond b false (ltZ q′ q)) m) ∙ e in
+    inr (omega (arith, ints), omega (arith, ints)))
+    (cases-bool (ltZ o o′)))
     (cases-bool (ltZ o′ o))
 
 lower-in : (o q o′ q′ : ℤ) → (o′ <ℤ o) ⊎ ((o′ ≡ o) × (q′ <ℤ q)) → lower o q o′ q′ ≡ true
@@ -65,9 +64,10 @@ module _ (j : Job) (z : List ℤ) where
   unfolding lowers allowed below
   step-out m h e =
       let t = both-true (allowed j z m) (below (problemOf j) (places z) (places (after z m))) e in
-      let b = between-parts (problemOf j .l (m .rope)) (problemOf j .u (m .rope)) (places z (m .rope) +ℤ stepOf m) (t .0) in
-      ( record { rope-there = h .0; size-there = h .1; not-below = b .0; not-above = b .1 }
-      , lower-out (outside (problemOf j) (places z)) (cost (problemOf j) (places z)) (outside (problemOf j) (places (after z m))) (cost (problemOf j) (places (after z m))) (t .1) )
+      let b = between-parts (problemOf j .l (m .rope)) (problemOf j .u (m .rope)) (places z (m .rope) +ℤ stepOf m) (t .0) in (
+        record { rope-there = h .0; size-there = h .1; not-below = b .0; not-above = b .1 },
+        lower-out (outside (problemOf j) (places z)) (cost (problemOf j) (places z)) (outside (problemOf j) (places (after z m))) (cost (problemOf j) (places (after z m))) (t .1),
+      )
 
   step-in : (m : Move) → Step j z m → Below (problemOf j) (places z) (places (after z m)) → lowers j z m ≡ true
   unfolding lowers allowed below

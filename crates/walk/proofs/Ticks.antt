@@ -3,7 +3,7 @@ use Prim.Native.Nat.{ℕ, _+_, _*_, _^_, _≤_, _<_}
 use mathlib.Core.Path.{_≡_, ap, _∙_}
 use native.Mathlib.Nat.{mul-le-mul, le-refl}
 use native.Mathlib.Omega.{arith}
-use lib.Dec.{lit≤, lit<}
+use lib.Dec.{lit<}
 use lib.IntN.{ℤ, natAbs, _+ℤ_, _*ℤ_}
 use lib.ListN.{getD}
 use Rattle.std.specs.Of.Vec.{vec-items, vec-len}
@@ -14,7 +14,7 @@ use Rattle.duality.proofs.Sizes.{small-add, small-mul, small-∑}
 use Rattle.job.specs.Numbers.{problemOf}
 use Rattle.job.specs.Rows.{excess}
 use Rattle.job.specs.declared.numbers.Job.{Job}
-use Rattle.job.proofs.Bits.{back, fits, back-is, back-of, read-back}
+use Rattle.job.proofs.Bits.{back, back-is, back-of, read-back}
 use Rattle.job.proofs.Outside.{excess-small}
 use Rattle.job.proofs.Reading.{a-small, lo-small, hi-small}
 use Rattle.walk.specs.Running.{Tame, outsideAfter}

@@ -49,7 +49,7 @@ pub record Lawful (j : Job) (budget : ℕ) (z y : List ℤ) (w : Walked) : Type 
   pub spent : w .end ≡ Spent → (w .moves ≡ budget) × Descent j y
 
 -- how the call answers, with the point z before and y after it
-abbrev pub Answers : Job → ℕ → List ℤ → List ℤ → Result Walked Unwalked → Type 0
-Answers j budget z y (Ok w) = (inBounds j z ≡ true) × (ended y w ≡ walkFrom j budget z)
-Answers j budget z y (Err OutOfBounds) = (inBounds j z ≡ false) × (y ≡ z)
-Answers j budget z y (Err NoMemory) = (inBounds j z ≡ true) × (y ≡ z)
+abbrev pub Outcome : Job → ℕ → List ℤ → List ℤ → Result Walked Unwalked → Type 0
+Outcome j budget z y (Ok w) = (inBounds j z ≡ true) × (ended y w ≡ walkFrom j budget z)
+Outcome j budget z y (Err OutOfBounds) = (inBounds j z ≡ false) × (y ≡ z)
+Outcome j budget z y (Err NoMemory) = (inBounds j z ≡ true) × (y ≡ z)

@@ -3,7 +3,7 @@ use Prim.Native.Nat.{ℕ, _<_}
 use mathlib.Core.Path.{_≡_}
 use mathlib.Core.Logic.{_⊎_}
 use mathlib.Core.List.{List}
-use mathlib.Core.Bool.{Bool, true, false, cond, _&&_}
+use mathlib.Core.Bool.{Bool, true, false, cond}
 use lib.IntN.{ℤ, _+ℤ_}
 use lib.Signed.{ltZ, _<ℤ_, _≤ℤ_}
 use Rattle.duality.specs.Lists.{places}

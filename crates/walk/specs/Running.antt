@@ -1,5 +1,5 @@
 -- Running sums: what a walk keeps beside its point, so that a try need not sum over all ropes again.
-use Prim.Native.Nat.{ℕ, _+_, _*_, _^_, _≤_, _<_}
+use Prim.Native.Nat.{ℕ, _^_, _≤_, _<_}
 use mathlib.Core.Path.{_≡_}
 use mathlib.Core.List.{List}
 use mathlib.Core.Bool.{Bool}
@@ -8,7 +8,7 @@ use lib.ListN.{length}
 use Rattle.std.specs.Of.Vec.{vec-items, vec-len}
 use Rattle.duality.specs.Lists.{places}
 use Rattle.duality.specs.Sums.{Vector, ∑}
-use Rattle.duality.specs.Problem.{Problem, rowAt}
+use Rattle.duality.specs.Problem.{rowAt}
 use Rattle.job.specs.Numbers.{problemOf}
 use Rattle.job.specs.Points.{gradient}
 use Rattle.job.specs.Rows.{excess, outside}

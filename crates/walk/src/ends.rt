@@ -1,6 +1,6 @@
 //! How a walk ends.
 
-#[derive(Clone, Copy, PartialEq, Eq)]
+#[derive(Clone, Copy)]
 pub enum End {
     /// No single move lowers.
     Settled,
@@ -8,7 +8,7 @@ pub enum End {
     Spent,
 }
 
-#[derive(Clone, Copy, PartialEq, Eq)]
+#[derive(Clone, Copy)]
 pub struct Walked {
     /// How many moves were taken.
     pub moves: u32,
@@ -16,7 +16,7 @@ pub struct Walked {
 }
 
 /// Why no walk was made. The point stands as it was.
-#[derive(Clone, Copy, PartialEq, Eq)]
+#[derive(Clone, Copy)]
 pub enum Unwalked {
     /// The list has another length than there are ropes, or a number outside its bounds.
     OutOfBounds,

@@ -27,6 +27,10 @@ impl Drop for Held<'_> {
         if !self.kept {
             *self.spot = self.old;
         }
-        let Held { spot: _, old: _, kept: _ } = self;
+        let Held {
+            spot: _,
+            old: _,
+            kept: _,
+        } = self;
     }
 }

@@ -14,7 +14,23 @@ pub(crate) struct Move {
 
 pub(crate) const SIZES: usize = 15;
 
-const TABLE: [i64; SIZES] = [16384, 8192, 4096, 2048, 1024, 512, 256, 128, 64, 32, 16, 8, 4, 2, 1];
+const TABLE: [i64; SIZES] = [
+    16384,
+    8192,
+    4096,
+    2048,
+    1024,
+    512,
+    256,
+    128,
+    64,
+    32,
+    16,
+    8,
+    4,
+    2,
+    1,
+];
 
 /// The size at a place of the table, the largest first.
 pub(crate) fn size_at(k: usize) -> i64

@@ -4,7 +4,7 @@ ghost use mathlib.Core.Bool.{true};
 ghost use Prim.Native.Nat.{ℕ, _+_, _*_, _^_, _<_, _≤_};
 ghost use lib.IntN.{natAbs, pos, _+ℤ_, _*ℤ_};
 ghost use lib.ListN.{length};
-ghost use Rattle.std.specs.Of.Vec.{vec-items, vec-len};
+ghost use Rattle.std.specs.Of.Vec.{vec-items};
 ghost use Rattle.std.specs.Vec.{made};
 ghost use Rattle.duality.specs.Lists.{places};
 ghost use Rattle.duality.specs.Problem.{rowAt};
@@ -131,7 +131,11 @@ impl Running {
         let sums = sums_at(heap, job, z)?;
         let slopes = slopes_at(heap, job, z)?;
         let outside = job.outside(z).unwrap_or(0);
-        Ok(Running { sums, slopes, outside })
+        Ok(Running {
+            sums,
+            slopes,
+            outside,
+        })
     }
 
     /// Follows a move of rope k by d.

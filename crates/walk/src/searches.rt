@@ -24,11 +24,19 @@ fn try_rope(job: &Job, z: &mut [i64], running: &Running, k: usize, may: bool) ->
 {
     for i in 0..SIZES {
         let size = size_at(i);
-        let plus = Move { rope: k, size, up: true };
+        let plus = Move {
+            rope: k,
+            size,
+            up: true,
+        };
         if try_move(job, z, running, plus, may) {
             return Some(plus);
         }
-        let minus = Move { rope: k, size, up: false };
+        let minus = Move {
+            rope: k,
+            size,
+            up: false,
+        };
         if try_move(job, z, running, minus, may) {
             return Some(minus);
         }

@@ -29,7 +29,11 @@ fn probe(job: &Job, spot: &mut i64, running: &Running, k: usize, next: i64, may:
     ensures after { λ r. ⌜ now (spot .exit) ≡ cond (cond r may false) next (now (spot .entry)) ⌝ }
 {
     let old = *spot;
-    let mut held = Held { spot, old, kept: false };
+    let mut held = Held {
+        spot,
+        old,
+        kept: false,
+    };
     *held.spot = next;
     let d = *held.spot - held.old;
     if !running.lowers(job, k, d) {

@@ -2,7 +2,7 @@
 ghost use mathlib.Core.Path.{_≡_};
 ghost use Rattle.std.specs.Results.{Cases};
 ghost use Rattle.job.specs.Bounds.{In-bounds};
-ghost use Rattle.walk.specs.Laws.{Answers, Lawful};
+ghost use Rattle.walk.specs.Laws.{Outcome, Lawful};
 ghost use Rattle.walk.specs.Running.{Tracks};
 ghost use Rattle.walk.specs.Walks.{walkFrom, ended};
 use crate::ends::End;
@@ -25,11 +25,17 @@ fn descend(job: &Job, z: &mut [i64], running: &mut Running, budget: u32) -> Walk
         let may = moves < budget;
         match search(job, z, running, may) {
             None => {
-                return Walked { moves, end: End::Settled };
+                return Walked {
+                    moves,
+                    end: End::Settled,
+                };
             }
             Some(m) => {
                 if !may {
-                    return Walked { moves, end: End::Spent };
+                    return Walked {
+                        moves,
+                        end: End::Spent,
+                    };
                 }
                 let by = step(m);
                 running.shift(job, m.rope, by);
@@ -45,7 +51,7 @@ fn descend(job: &Job, z: &mut [i64], running: &mut Running, budget: u32) -> Walk
 /// and it never leaves the bounds. `Settled` says that no single move lowers any more, `Spent` that one does and the budget is used.
 /// A refusal leaves the point as it stood.
 pub fn walk(heap: Global, job: &Job, point: &mut [i64], budget: u32) -> Result<Walked, Unwalked>
-    ensures value { λ r. ⌜ Answers (now (job .entry)) budget (now (point .entry)) (now (point .exit)) r ⌝ }
+    ensures value { λ r. ⌜ Outcome (now (job .entry)) budget (now (point .entry)) (now (point .exit)) r ⌝ }
     ensures law { λ r. ⌜ Cases r (λ w. Lawful (now (job .entry)) budget (now (point .entry)) (now (point .exit)) w) (λ _. Unit {0}) ⌝ }
 {
     if !job.in_bounds(point) {

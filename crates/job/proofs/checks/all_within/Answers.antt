@@ -1,5 +1,5 @@
 use Prim.Native.Nat.{_<_, _≤_}
-use mathlib.Core.Path.{_≡_, refl, ap, _∙_, sym}
+use mathlib.Core.Path.{_≡_, ap, _∙_, sym}
 use lib.IntN.{natAbs}
 use mir.Val.{SFits}
 use mir.Syntax.{w64}
@@ -8,7 +8,7 @@ use borrow.Author.Needs.{needs}
 use Rattle.std.proofs.shelf.Signed.{toZ-ofZ}
 use Rattle.std.proofs.shelf.Tests.{le-leb, lt-leb}
 use Rattle.duality.specs.Lists.{places}
-use Rattle.job.specs.Tests.{all, within}
+use Rattle.job.specs.Tests.{within}
 use Rattle.job.proofs.Tests.{all-more, all-not}
 use Rattle.job.proofs.checks.all_within.Needs as need
 

@@ -1,7 +1,4 @@
-use mathlib.Core.Path.{_≡_, ap}
-use native.Mathlib.Omega.{arith}
 use lib.Dec.{lit<}
-use lib.IntN.{natAbs}
 use Rattle.duality.specs.Lists.{places}
 use Rattle.job.proofs.Bits.{back-is, small-back}
 use Rattle.walk.specs.Moves.{sizes}

@@ -1,8 +1,8 @@
-use Prim.Native.Nat.{_+_, _*_, _^_, _≤_, _<_}
-use mathlib.Core.Path.{_≡_, refl}
+use Prim.Native.Nat.{_+_, _*_, _^_, _<_}
+use mathlib.Core.Path.{refl}
 use native.Mathlib.Omega.{arith}
 use lib.Dec.{lit<}
-use lib.IntN.{ℤ, natAbs, _+ℤ_}
+use lib.IntN.{_+ℤ_}
 use lib.ListN.{length}
 use Rattle.duality.specs.Lists.{places}
 use Rattle.job.specs.Numbers.{problemOf}
@@ -34,12 +34,13 @@ shifted-requires c κs =
     let hw = both-small (problemOf (c .args .job .now) .G (c .loop-i .i) (c .args .k)) (problemOf (c .args .job .now) .G (c .args .k) (c .loop-i .i)) h₁ h₂ in
     record {
       x = number-in (places (c .loop-i .slopes) (c .loop-i .i))
-        (problemOf (c .args .job .now) .G (c .loop-i .i) (c .args .k) +ℤ problemOf (c .args .job .now) .G (c .args .k) (c .loop-i .i)) (c .args .d) hx hw (c .pre .small) (places (c .loop-i .slopes) (c .loop-i .i)) refl;
+          (problemOf (c .args .job .now) .G (c .loop-i .i) (c .args .k) +ℤ problemOf (c .args .job .now) .G (c .args .k) (c .loop-i .i)) (c .args .d) hx hw (c .pre .small)
+          (places (c .loop-i .slopes) (c .loop-i .i)) refl;
       product =
-        product-in (places (c .loop-i .slopes) (c .loop-i .i))
-        (problemOf (c .args .job .now) .G (c .loop-i .i) (c .args .k) +ℤ problemOf (c .args .job .now) .G (c .args .k) (c .loop-i .i)) (c .args .d) hx hw (c .pre .small) _
-        (both-is _ _ _ _ h₁ h₂ (g-read (c .args .job .now) (c .loop-i .i) (c .args .k) _ (c .index .ensures) (c .loop-i-test .taken) (c .pre .rope))
-        (g-read (c .args .job .now) (c .args .k) (c .loop-i .i) _ (c .index-in-loop-i .ensures) (c .pre .rope) (c .loop-i-test .taken)));
+          product-in (places (c .loop-i .slopes) (c .loop-i .i))
+          (problemOf (c .args .job .now) .G (c .loop-i .i) (c .args .k) +ℤ problemOf (c .args .job .now) .G (c .args .k) (c .loop-i .i)) (c .args .d) hx hw (c .pre .small) _
+          (both-is _ _ _ _ h₁ h₂ (g-read (c .args .job .now) (c .loop-i .i) (c .args .k) _ (c .index .ensures) (c .loop-i-test .taken) (c .pre .rope))
+          (g-read (c .args .job .now) (c .args .k) (c .loop-i .i) _ (c .index-in-loop-i .ensures) (c .pre .rope) (c .loop-i-test .taken)));
     }
 
 pub loop-i-again : need.loop-i-again
@@ -49,14 +50,16 @@ loop-i-again c =
     let h₂ = g-small (c .args .job .now) (c .args .k * c .args .job .now .ropes + c .loop-i .i) in
     let hw = both-small (problemOf (c .args .job .now) .G (c .loop-i .i) (c .args .k)) (problemOf (c .args .job .now) .G (c .args .k) (c .loop-i .i)) h₁ h₂ in
     let l : c .loop-i .i < length (c .loop-i .slopes) = omega (arith, c .loop-i-test .taken, c .pre .long, c .loop-i .kept .slopes) in
-    raise-more (c .args .slopes .now) (c .loop-i .slopes) (λ i. problemOf (c .args .job .now) .G i (c .args .k) +ℤ problemOf (c .args .job .now) .G (c .args .k) i) (back (c .args .d)) _ (c .loop-i .i) l
+    raise-more (c .args .slopes .now) (c .loop-i .slopes) (λ i. problemOf (c .args .job .now) .G i (c .args .k) +ℤ problemOf (c .args .job .now) .G (c .args .k) i)
+    (back (c .args .d)) _ (c .loop-i .i) l
     (c .loop-i .inv)
     (raised-is (places (c .loop-i .slopes) (c .loop-i .i))
-        (problemOf (c .args .job .now) .G (c .loop-i .i) (c .args .k) +ℤ problemOf (c .args .job .now) .G (c .args .k) (c .loop-i .i)) (c .args .d) hx hw (c .pre .small) _ (c .shifted .result)
+    (problemOf (c .args .job .now) .G (c .loop-i .i) (c .args .k) +ℤ problemOf (c .args .job .now) .G (c .args .k) (c .loop-i .i)) (c .args .d) hx hw (c .pre .small) _ (c .shifted .result)
     (both-is _ _ _ _ h₁ h₂ (g-read (c .args .job .now) (c .loop-i .i) (c .args .k) _ (c .index .ensures) (c .loop-i-test .taken) (c .pre .rope))
     (g-read (c .args .job .now) (c .args .k) (c .loop-i .i) _ (c .index-in-loop-i .ensures) (c .pre .rope) (c .loop-i-test .taken))) (c .shifted .ensures))
 
 pub returns : need.returns
 returns c =
-    raised-all (c .args .slopes .now) (c .loop-i .slopes) (λ i. problemOf (c .args .job .now) .G i (c .args .k) +ℤ problemOf (c .args .job .now) .G (c .args .k) i) (c .args .d) (back (c .args .d)) (c .loop-i .i)
+    raised-all (c .args .slopes .now) (c .loop-i .slopes) (λ i. problemOf (c .args .job .now) .G i (c .args .k) +ℤ problemOf (c .args .job .now) .G (c .args .k) i) (c .args .d)
+    (back (c .args .d)) (c .loop-i .i)
     (c .loop-i .kept .slopes) (omega (arith, c .loop-i-test .left, c .pre .long)) (back-is 16384 (c .args .d) (c .pre .small) (lit< tt)) (c .loop-i .inv)

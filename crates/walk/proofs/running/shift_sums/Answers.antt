@@ -1,8 +1,8 @@
 use Prim.Native.Nat.{_+_, _*_, _^_, _≤_, _<_}
-use mathlib.Core.Path.{_≡_, refl}
+use mathlib.Core.Path.{refl}
 use native.Mathlib.Omega.{arith}
 use lib.Dec.{lit<}
-use lib.IntN.{ℤ, natAbs}
+use lib.IntN.{natAbs}
 use lib.ListN.{length}
 use Rattle.duality.specs.Lists.{places}
 use Rattle.job.specs.Numbers.{problemOf}
@@ -22,10 +22,11 @@ shifted-requires c κs =
     let hx = small-of (2 ^ 41) (places (c .loop-i .sums) (c .loop-i .i)) _ (c .loop-i .inv .1 (c .loop-i .i) (omega arith)) (c .pre .sums-small (c .loop-i .i)) in
     let hw : natAbs (problemOf (c .args .job .now) .A (c .loop-i .i) (c .args .k)) ≤ 2097152 = omega (arith, a-small (c .args .job .now) (c .args .k * c .args .job .now .rows + c .loop-i .i)) in
     record {
-      x = number-in (places (c .loop-i .sums) (c .loop-i .i)) (problemOf (c .args .job .now) .A (c .loop-i .i) (c .args .k)) (c .args .d) hx hw (c .pre .small) (places (c .loop-i .sums) (c .loop-i .i)) refl;
+      x = number-in (places (c .loop-i .sums) (c .loop-i .i)) (problemOf (c .args .job .now) .A (c .loop-i .i) (c .args .k)) (c .args .d) hx hw (c .pre .small)
+          (places (c .loop-i .sums) (c .loop-i .i)) refl;
       product =
-        product-in (places (c .loop-i .sums) (c .loop-i .i)) (problemOf (c .args .job .now) .A (c .loop-i .i) (c .args .k)) (c .args .d) hx hw (c .pre .small) _
-        (a-read (c .args .job .now) (c .loop-i .i) (c .args .k) _ (c .index .ensures) (c .loop-i-test .taken) (c .pre .rope));
+          product-in (places (c .loop-i .sums) (c .loop-i .i)) (problemOf (c .args .job .now) .A (c .loop-i .i) (c .args .k)) (c .args .d) hx hw (c .pre .small) _
+          (a-read (c .args .job .now) (c .loop-i .i) (c .args .k) _ (c .index .ensures) (c .loop-i-test .taken) (c .pre .rope));
     }
 
 pub loop-i-again : need.loop-i-again

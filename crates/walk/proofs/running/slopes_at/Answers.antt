@@ -1,4 +1,4 @@
-use mathlib.Core.Path.{_≡_, _∙_}
+use mathlib.Core.Path.{_∙_}
 use native.Mathlib.Omega.{arith}
 use borrow.Author.Needs.{needs}
 use mir.Syntax.{w64}
@@ -21,7 +21,7 @@ loop-k-again c =
     lists-more (c .loop-k .k) (vec-items (c .loop-k .slopes)) _ (gradient (problemOf (c .args .job .now)) (places (c .args .z .now))) _ (c .loop-k .inv) (c .in-Continue-push .ensures tt .items)
     (toZ-ofZ w64 (c .unwrap-or .result) f
     ∙ c .unwrap-or .ensures
-    ∙ given-value _ _ (c .gradient .result) (c .gradient .ensures) (and-from _ _ (lt-ltb _ _ (c .loop-k-test .taken)) (c .pre)))
+    ∙ given-value _ _ (c .gradient .result) (c .gradient .ensures .value) (and-from _ _ (lt-ltb _ _ (c .loop-k-test .taken)) (c .pre)))
 
 pub returns : need.returns
 returns c = lists-all (c .loop-k .k) _ (vec-items (c .loop-k .slopes)) (gradient (problemOf (c .args .job .now)) (places (c .args .z .now))) (omega arith) (c .loop-k .inv)

@@ -1,5 +1,3 @@
-use Prim.Native.Nat.{ℕ, _<_}
-use mathlib.Core.Path.{_≡_}
 use Rattle.std.specs.Of.Vec.{vec-items}
 use Rattle.duality.specs.Lists.{places}
 use Rattle.duality.specs.Problem.{rowAt}

@@ -1,4 +1,4 @@
-use mathlib.Core.Path.{_≡_, refl, ap, sym, _∙_}
+use mathlib.Core.Path.{refl, sym, _∙_}
 use Rattle.walk.proofs.AlongSizes.{inside-at, tracks-at}
 use Rattle.walk.proofs.AlongRopes.{either-stands, ropes-holds, ropes-end, rope-hit, rope-miss, rope-point, miss-point}
 use Rattle.walk.proofs.searches.search.Needs as need
@@ -23,11 +23,12 @@ returns-then-is-some c =
     }
 
 pub loop-k-again : need.loop-k-again
-loop-k-again c =
-    ( miss-point (c .args .z .now) (c .loop-k .z) (c .try-rope-found .last .z) (c .try-rope-found .result) (c .args .may) (c .loop-k .inv .0) (c .try-rope-found .ensures .point)
-        (c .if-is-some .ensures tt)
-    , rope-miss (c .args .job .now) (c .args .z .now) (c .loop-k .z) (c .loop-k .k) (c .try-rope-found .result) (c .loop-k .inv .0) (c .loop-k-test .taken) (c .loop-k .inv .1)
-        (c .try-rope-found .ensures .value) (c .if-is-some .ensures tt) )
+loop-k-again c = (
+  miss-point (c .args .z .now) (c .loop-k .z) (c .try-rope-found .last .z) (c .try-rope-found .result) (c .args .may) (c .loop-k .inv .0) (c .try-rope-found .ensures .point)
+      (c .if-is-some .ensures tt),
+  rope-miss (c .args .job .now) (c .args .z .now) (c .loop-k .z) (c .loop-k .k) (c .try-rope-found .result) (c .loop-k .inv .0) (c .loop-k-test .taken) (c .loop-k .inv .1)
+      (c .try-rope-found .ensures .value) (c .if-is-some .ensures tt),
+)
 
 pub returns : need.returns
 returns c =

@@ -1,6 +1,6 @@
 use borrow.Author.Needs.{needs}
 use native.Mathlib.Omega.{arith}
-use mathlib.Core.Path.{_≡_, sym, ap, _∙_}
+use mathlib.Core.Path.{sym, ap, _∙_}
 use Rattle.std.proofs.shelf.Signed.{ints}
 use Rattle.walk.specs.Running.{looksLower}
 use Rattle.walk.proofs.tries.probe.Needs as need

@@ -1,5 +1,4 @@
-use mathlib.Core.Path.{_≡_, refl, sym, ap, _∙_}
-use Rattle.job.proofs.Holding.{in-bounds-out}
+use mathlib.Core.Path.{refl, sym}
 use Rattle.walk.proofs.Following.{a-point}
 use Rattle.walk.proofs.Lawful.{lawful}
 use Rattle.walk.proofs.walks.walk.Needs as need

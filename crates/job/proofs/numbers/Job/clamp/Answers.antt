@@ -1,7 +1,6 @@
-use mathlib.Core.Path.{_≡_, sym, ap, _∙_}
+use mathlib.Core.Path.{sym, _∙_}
 use native.Mathlib.Omega.{arith}
 use borrow.Author.Needs.{needs}
-use lib.Dec.{lit<}
 use mir.Syntax.{w64}
 use mir.Val.{SFits}
 use Prim.Native.Nat.{_<_}
@@ -9,7 +8,7 @@ use lib.ListN.{length}
 use Rattle.std.proofs.shelf.Signed.{toZ-ofZ}
 use Rattle.std.proofs.shelf.Tests.{eq-eqb}
 use Rattle.duality.specs.Lists.{places}
-use Rattle.job.proofs.Reading.{l-small, u-small, l-read, u-read}
+use Rattle.job.proofs.Reading.{l-read, u-read}
 use Rattle.job.proofs.Holding.{held-is, held-more, held-all, held-in-bounds}
 use Rattle.job.proofs.numbers.Job.clamp.Needs as need
 

@@ -1,16 +1,11 @@
-use mathlib.Core.Bool.{Bool, true, false}
-use mathlib.Core.Path.{_≡_, sym, ap, _∙_}
+use mathlib.Core.Bool.{true, false}
 use native.Mathlib.Omega.{arith}
 use borrow.Author.Needs.{needs}
-use lib.Dec.{lit<, eqb}
 use mir.Syntax.{w64}
 use mir.Val.{SFits}
 use Rattle.std.proofs.shelf.Signed.{toZ-ofZ}
-use Rattle.std.proofs.shelf.Tests.{ne-eqb, and-left}
 use Rattle.duality.specs.Lists.{places}
-use Rattle.job.specs.Numbers.{problemOf}
-use Rattle.job.specs.Bounds.{inBounds}
-use Rattle.job.proofs.Reading.{l-small, u-small, l-read, u-read}
+use Rattle.job.proofs.Reading.{l-read, u-read}
 use Rattle.job.proofs.Tests.{all-more}
 use Rattle.job.proofs.Holding.{lies, lies-is, in-bounds-decides, wrong-length, breaks, lie-all}
 use Rattle.job.proofs.numbers.Job.in_bounds.Needs as need

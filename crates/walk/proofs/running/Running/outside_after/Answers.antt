@@ -1,8 +1,6 @@
-use Prim.Native.Nat.{_^_, _≤_}
-use mathlib.Core.Path.{_≡_}
+use Prim.Native.Nat.{_^_}
 use native.Mathlib.Omega.{arith}
 use lib.Dec.{lit<}
-use lib.IntN.{ℤ, natAbs}
 use Rattle.job.proofs.Bits.{back, fits, back-is, small-back, small-of}
 use Rattle.job.proofs.Reading.{a-there, a-read, lo-read, hi-read, lo-small, hi-small}
 use Rattle.walk.proofs.Ticks.{sum-read, sum-in, weight-in, moved-is, moved-in, ticks-are, turn-small, ticks-more, ticks-all}
@@ -40,10 +38,11 @@ add-total c =
     let w = a-read (c .args .job .now) (c .loop-i .i) (c .args .k) _ (c .index-in-loop-i .ensures) (c .loop-i-test .taken) (c .pre .rope) in
     let y = moved-is (c .args .job .now) (c .args .self .now) (c .args .k) (back (c .args .d)) (c .pre .tame) hd (c .loop-i .i) _ _ (c .shifted-s .result) x w (c .shifted-s .ensures) in
     let r = ticks-are (c .args .job .now) (c .args .self .now) (c .args .k) (back (c .args .d)) (c .pre .tame) hd (c .loop-i .i) _ _ _ (c .excess-total .result)
-          (lo-read (c .args .job .now) (c .loop-i .i) _ (c .index-in-loop-i-2 .ensures) (c .loop-i-test .taken))
-          (hi-read (c .args .job .now) (c .loop-i .i) _ (c .index-in-loop-i-3 .ensures) (c .loop-i-test .taken)) y (c .excess-total .ensures) in
+    (lo-read (c .args .job .now) (c .loop-i .i) _ (c .index-in-loop-i-2 .ensures) (c .loop-i-test .taken))
+    (hi-read (c .args .job .now) (c .loop-i .i) _ (c .index-in-loop-i-3 .ensures) (c .loop-i-test .taken)) y (c .excess-total .ensures) in
     fits (2 ^ 47) _
-    (turn-small (c .args .job .now) (c .args .self .now) (c .args .k) (back (c .args .d)) (c .pre .tame) hd (c .loop-i .i) _ (c .excess-total .result) (omega (arith, c .loop-i-test .taken)) (c .loop-i .inv) r)
+    (turn-small (c .args .job .now) (c .args .self .now) (c .args .k) (back (c .args .d)) (c .pre .tame) hd (c .loop-i .i) _ (c .excess-total .result)
+    (omega (arith, c .loop-i-test .taken)) (c .loop-i .inv) r)
     (lit< tt)
 
 pub loop-i-again : need.loop-i-again
@@ -53,9 +52,10 @@ loop-i-again c =
     let w = a-read (c .args .job .now) (c .loop-i .i) (c .args .k) _ (c .index-in-loop-i .ensures) (c .loop-i-test .taken) (c .pre .rope) in
     let y = moved-is (c .args .job .now) (c .args .self .now) (c .args .k) (back (c .args .d)) (c .pre .tame) hd (c .loop-i .i) _ _ (c .shifted-s .result) x w (c .shifted-s .ensures) in
     let r = ticks-are (c .args .job .now) (c .args .self .now) (c .args .k) (back (c .args .d)) (c .pre .tame) hd (c .loop-i .i) _ _ _ (c .excess-total .result)
-          (lo-read (c .args .job .now) (c .loop-i .i) _ (c .index-in-loop-i-2 .ensures) (c .loop-i-test .taken))
-          (hi-read (c .args .job .now) (c .loop-i .i) _ (c .index-in-loop-i-3 .ensures) (c .loop-i-test .taken)) y (c .excess-total .ensures) in
-    ticks-more (c .args .job .now) (c .args .self .now) (c .args .k) (back (c .args .d)) (c .pre .tame) hd (c .loop-i .i) _ (c .excess-total .result) (omega (arith, c .loop-i-test .taken)) (c .loop-i .inv) r
+    (lo-read (c .args .job .now) (c .loop-i .i) _ (c .index-in-loop-i-2 .ensures) (c .loop-i-test .taken))
+    (hi-read (c .args .job .now) (c .loop-i .i) _ (c .index-in-loop-i-3 .ensures) (c .loop-i-test .taken)) y (c .excess-total .ensures) in
+    ticks-more (c .args .job .now) (c .args .self .now) (c .args .k) (back (c .args .d)) (c .pre .tame) hd (c .loop-i .i) _ (c .excess-total .result)
+    (omega (arith, c .loop-i-test .taken)) (c .loop-i .inv) r
 
 pub returns : need.returns
 returns c =

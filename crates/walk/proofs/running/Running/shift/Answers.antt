@@ -1,5 +1,4 @@
-use Prim.Native.Nat.{_^_, _≤_}
-use mathlib.Core.Path.{_≡_, ap, _∙_}
+use mathlib.Core.Path.{ap, _∙_}
 use native.Mathlib.Omega.{arith}
 use borrow.Author.Needs.{needs}
 use lib.Dec.{lit<}
@@ -36,6 +35,7 @@ shift-slopes-requires c κs =
 pub returns : need.returns
 returns c =
     let f : SFits w64 (c .outside-after-outside .result) = search needs in
-    shifted-is (c .args .job .now) (c .args .self .now) (c .args .k) (c .args .d) (back (c .args .d)) (c .outside-after-outside .result) _ (c .shift-sums .last .sums) _ (c .shift-slopes .last .slopes) f
+    shifted-is (c .args .job .now) (c .args .self .now) (c .args .k) (c .args .d) (back (c .args .d)) (c .outside-after-outside .result) _ (c .shift-sums .last .sums) _
+    (c .shift-slopes .last .slopes) f
     (back-is 16384 (c .args .d) (c .pre .small) (lit< tt)) (c .deref-mut .ensures .value) (c .deref-mut .ensures .len) (c .shift-sums .ensures)
     (c .deref-mut-2 .ensures .value) (c .deref-mut-2 .ensures .len) (c .shift-slopes .ensures) (c .outside-after-outside .ensures)
