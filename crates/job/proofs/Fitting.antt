@@ -5,7 +5,7 @@ use mathlib.Core.List.{List}
 use mathlib.Core.Path.{_≡_}
 use lib.IntN.{ℤ}
 use Rattle.std.proofs.shelf.Tests.{and-parts, ltb-true, leb-true, eqb-true}
-use Rattle.job.specs.Tests.{allWithin, inOrder}
+use Rattle.duality.specs.Tests.{allWithin, inOrder}
 use Rattle.job.specs.Numbers.{sizes, limited}
 
 pub record Sized (ropes rows g a hi l u : ℕ) : Type 0 where

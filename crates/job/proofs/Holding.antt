@@ -17,11 +17,11 @@ use Rattle.std.proofs.shelf.Signed.{clamps}
 use Rattle.std.proofs.shelf.Tests.{cases-lt, and-parts, and-from, and-left, and-right, ne-eqb, eqb-true, eq-eqb, cond-true}
 use Rattle.duality.specs.Lists.{places}
 use Rattle.duality.proofs.Ring.{lin}
-use Rattle.job.specs.Tests.{all, between}
+use Rattle.duality.specs.Tests.{all, between}
 use Rattle.job.specs.Numbers.{problemOf}
 use Rattle.job.specs.Bounds.{In-bounds, inBounds, held, clamped}
 use Rattle.job.specs.declared.numbers.Job.{Job}
-use Rattle.job.proofs.Tests.{all-at, all-not, all-from, between-parts, between-from, ordered-at}
+use Rattle.duality.proofs.Tests.{all-at, all-not, all-from, between-parts, between-from, ordered-at}
 
 module _ (j : Job) where
   abbrev pub lies : List ℤ → ℕ → Bool

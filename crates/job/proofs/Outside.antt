@@ -19,10 +19,10 @@ use Rattle.duality.proofs.Sizes.{sizes, small-add, small-∑}
 use Rattle.job.specs.Numbers.{problemOf}
 use Rattle.job.specs.Points.{aPoint}
 use Rattle.job.specs.Rows.{excess, outside, Row-met, Rows-met, Met-inside, meets}
-use Rattle.job.specs.Tests.{between}
+use Rattle.duality.specs.Tests.{between}
 use Rattle.job.specs.declared.numbers.Job.{Job}
 use Rattle.job.proofs.Bits.{back, fits, back-of}
-use Rattle.job.proofs.Tests.{between-parts, between-from}
+use Rattle.duality.proofs.Tests.{between-parts, between-from}
 use Rattle.job.proofs.Reading.{lo-small, hi-small, point-small, row-small}
 
 pub excess-small : (low high s : ℤ) (b c : ℕ) → natAbs low ≤ b → natAbs high ≤ b → natAbs s ≤ c → natAbs (excess low high s) ≤ b + c

@@ -17,13 +17,13 @@ use Rattle.duality.specs.Problem.{rowAt}
 use Rattle.duality.proofs.Sums.{∑-cong}
 use Rattle.duality.proofs.Sizes.{small-add, small-mul, small-dot}
 use Rattle.duality.proofs.Forms.{dot-comm}
-use Rattle.job.specs.Tests.{within, allWithin}
+use Rattle.duality.specs.Tests.{within, allWithin}
 use Rattle.job.specs.Numbers.{problemOf}
 use Rattle.job.specs.Points.{aPoint, answer, gradient}
 use Rattle.job.specs.Strides.{strided, Reads}
 use Rattle.job.specs.declared.numbers.Job.{Job}
 use Rattle.job.proofs.Bits.{back, read-back}
-use Rattle.job.proofs.Tests.{within-at, all-from}
+use Rattle.duality.proofs.Tests.{within-at, all-from}
 
 -- a place of row i lies within a table of n rows and m columns
 pub place-within : (i n m k : ℕ) → i < n → k < m → i * m + k < n * m

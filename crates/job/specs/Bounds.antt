@@ -10,7 +10,7 @@ use lib.Signed.{_≤ℤ_}
 use Rattle.std.specs.Iters.{counting}
 use Rattle.std.specs.Numbers.{maxZ, minZ}
 use Rattle.duality.specs.Lists.{places}
-use Rattle.job.specs.Tests.{all, between}
+use Rattle.duality.specs.Tests.{all, between}
 use Rattle.job.specs.Numbers.{problemOf}
 use Rattle.job.specs.declared.numbers.Job.{Job}
 

@@ -10,7 +10,7 @@ use Rattle.std.specs.declared.option.Option.{Option}
 use Rattle.std.specs.declared.option.Option.the-variants.{Some, None}
 use Rattle.duality.specs.Lists.{places, by-rows}
 use Rattle.duality.specs.Problem.{Problem}
-use Rattle.job.specs.Tests.{allWithin, inOrder}
+use Rattle.duality.specs.Tests.{allWithin, inOrder}
 use Rattle.job.specs.declared.numbers.Job.{Job}
 
 pub record Numbers : Type 0 where

@@ -10,7 +10,7 @@ use Rattle.std.specs.declared.option.Option.{Option}
 use Rattle.std.specs.declared.option.Option.the-variants.{Some, None}
 use Rattle.duality.specs.Sums.{Vector, row, column}
 use Rattle.duality.specs.Problem.{Problem, cost}
-use Rattle.job.specs.Tests.{allWithin}
+use Rattle.duality.specs.Tests.{allWithin}
 
 -- a number for each of n ropes, within ±limit
 abbrev pub aPoint : ℕ → ℕ → List ℤ → Bool

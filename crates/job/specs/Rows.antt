@@ -9,7 +9,7 @@ use Rattle.std.specs.declared.option.Option.{Option}
 use Rattle.std.specs.declared.option.Option.the-variants.{Some, None}
 use Rattle.duality.specs.Sums.{Vector, ∑}
 use Rattle.duality.specs.Problem.{Problem, rowAt}
-use Rattle.job.specs.Tests.{firstNot, between}
+use Rattle.duality.specs.Tests.{firstNot, between}
 use Rattle.job.specs.declared.verdict.Verdict.{Verdict}
 use Rattle.job.specs.declared.verdict.Verdict.the-variants.{Met, Broken, NoPoint}
 

@@ -2,7 +2,7 @@
 ghost use mathlib.Core.Path.{_≡_};
 ghost use mathlib.Core.Bool.{_&&_};
 ghost use lib.ListN.{length};
-ghost use Rattle.job.specs.Tests.{allWithin, inOrder};
+ghost use Rattle.duality.specs.Tests.{allWithin, inOrder};
 ghost use Rattle.job.specs.Points.{aPoint};
 
 /// Numbers of G and A.

@@ -5,7 +5,7 @@ ghost use Rattle.duality.specs.Lists.{places};
 ghost use Rattle.job.specs.Numbers.{problemOf};
 ghost use Rattle.job.specs.Points.{aPoint};
 ghost use Rattle.job.specs.Rows.{judged, Judges};
-ghost use Rattle.job.specs.Tests.{between as betweenOf};
+ghost use Rattle.duality.specs.Tests.{between as betweenOf};
 use crate::checks::ROUNDED_LIMIT;
 use crate::checks::is_point;
 use crate::numbers::Job;

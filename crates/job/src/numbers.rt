@@ -3,7 +3,7 @@ ghost use Prim.Native.Nat.{_*_, _<_, _≤_};
 ghost use mathlib.Core.Bool.{true};
 ghost use mathlib.Core.Path.{_≡_};
 ghost use Rattle.std.specs.Of.Vec.{vec-items, vec-len};
-ghost use Rattle.job.specs.Tests.{allWithin, inOrder};
+ghost use Rattle.duality.specs.Tests.{allWithin, inOrder};
 
 /// The numbers of a problem, within limits that keep every sum over them inside 64 bits.
 ///

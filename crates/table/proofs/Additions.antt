@@ -13,7 +13,8 @@ use Rattle.duality.specs.Sums.{∑}
 use Rattle.duality.proofs.Ring.{*ℤ-distr}
 use Rattle.duality.proofs.Sums.{∑-cong, ∑-add}
 use Rattle.duality.specs.Lists.{places}
-use Rattle.table.specs.Grid.{Grid, heightOf, widthOf, within, limited, placeOf, matrixOf}
+use Rattle.table.specs.Grid.{Grid, heightOf, widthOf, limited, placeOf, matrixOf}
+use Rattle.duality.specs.Tests.{within}
 use Rattle.table.specs.Laws.{Multiplies, Alike}
 use Rattle.table.specs.Layers.{added, summed}
 use Rattle.table.specs.LayerLaws.{AddedUp}

@@ -15,7 +15,9 @@ use Rattle.std.specs.declared.option.Option.{Option}
 use Rattle.std.specs.declared.option.Option.the-variants.{Some, None}
 use Rattle.duality.specs.Sums.{∑, row}
 use Rattle.duality.specs.Lists.{places}
-use Rattle.table.specs.Grid.{Grid, cut, heightOf, widthOf, within, limited, placeOf, matrixOf, every, allWithin}
+use Rattle.duality.proofs.Tests.{all-at, all-from}
+use Rattle.table.specs.Grid.{Grid, cut, heightOf, widthOf, limited, placeOf, matrixOf}
+use Rattle.duality.specs.Tests.{within, all, allWithin}
 use Rattle.table.specs.Laws.{Bounded}
 use Rattle.table.proofs.Integers.{abs-mul-le, abs-sum}
 
@@ -23,8 +25,8 @@ pub cut-below : (z : ℤ) → cut z ≤ 64
 cut-below (pos n) = omega arith
 cut-below (negsuc n) = omega arith
 
-pub every-decides : (p : ℕ → Bool) (n : ℕ) → Decides (every n p) ((k : ℕ) → k < n → p k ≡ true)
-every-decides p = decides-below-and p (λ k. p k ≡ true) (λ n. every n p) (λ k. (λ e. e, λ e. e)) refl (λ _. refl)
+pub every-decides : (p : ℕ → Bool) (n : ℕ) → Decides (all p n) ((k : ℕ) → k < n → p k ≡ true)
+every-decides p n = (λ e k h. all-at p n k e h, all-from p n)
 
 limited-near : (o : Option ℤ) → Bounded 1048576 (limited o)
 limited-near None = tt

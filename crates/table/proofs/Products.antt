@@ -14,7 +14,8 @@ use Rattle.std.specs.declared.option.Option.{Option}
 use Rattle.std.specs.declared.option.Option.the-variants.{Some, None}
 use Rattle.duality.specs.Sums.{row}
 use Rattle.duality.specs.Lists.{places}
-use Rattle.table.specs.Grid.{Grid, heightOf, widthOf, within, placeOf, matrixOf, allWithin, filled, multipliable, productOf}
+use Rattle.table.specs.Grid.{Grid, heightOf, widthOf, placeOf, matrixOf, filled, multipliable, productOf}
+use Rattle.duality.specs.Tests.{within, allWithin}
 use Rattle.table.specs.Laws.{Bounded, Exactly, Multiplies}
 use Rattle.table.proofs.Bounds.{cut-below, every-decides, list-near, sum-near}
 

@@ -1,16 +1,17 @@
 -- What a table of whole numbers means: its sizes as they were given, and at each place a number or a blank.
 -- The four questions cut the sizes and blank out the numbers beyond the limit, so that every grid is a lawful table.
-use Prim.Native.Nat.{ℕ, zero, suc, min}
-use mathlib.Core.Bool.{Bool, true, cond, _&&_}
+use Prim.Native.Nat.{ℕ, min}
+use mathlib.Core.Bool.{Bool, cond, _&&_}
 use mathlib.Core.List.{List}
 use lib.Dec.{ltb, leb, eqb}
-use lib.IntN.{ℤ, pos, negsuc, natAbs}
+use lib.IntN.{ℤ, pos, negsuc}
 use lib.ListN.{length}
 use Rattle.std.specs.Options.{isSome, valueOr}
 use Rattle.std.specs.declared.option.Option.{Option}
 use Rattle.std.specs.declared.option.Option.the-variants.{Some, None}
 use Rattle.duality.specs.Lists.{places}
 use Rattle.duality.specs.Sums.{Matrix, row}
+use Rattle.duality.specs.Tests.{all, within, allWithin}
 
 pub record Grid : Type 0 where
   pub rows : ℤ
@@ -28,10 +29,6 @@ heightOf g = cut (g .rows)
 abbrev pub widthOf : Grid → ℕ
 widthOf g = cut (g .columns)
 
--- the number z lies from -m to m
-abbrev pub within : ℕ → ℤ → Bool
-within m z = leb (natAbs z) m
-
 -- a number beyond the limit of a place is a blank
 abbrev pub limited : Option ℤ → Option ℤ
 limited None = None
@@ -44,17 +41,9 @@ placeOf g i j = cond (ltb i (heightOf g) && ltb j (widthOf g)) (limited (g .cell
 abbrev pub matrixOf : Grid → Matrix
 matrixOf g i j = valueOr (placeOf g i j) (pos 0)
 
--- p holds of 0 to n - 1
-abbrev pub every : ℕ → (ℕ → Bool) → Bool
-every zero p = true
-every (suc n) p = p n && every n p
-
-abbrev pub allWithin : ℕ → List ℤ → Bool
-allWithin m xs = every (length xs) (λ j. within m (places xs j))
-
 -- row i holds no blank
 abbrev pub filled : Grid → ℕ → Bool
-filled g i = every (widthOf g) (λ j. isSome (placeOf g i j))
+filled g i = all (λ j. isSome (placeOf g i j)) (widthOf g)
 
 -- whether row i can be multiplied with the list
 abbrev pub multipliable : Grid → ℕ → List ℤ → Bool

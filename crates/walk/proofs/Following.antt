@@ -24,12 +24,12 @@ use Rattle.job.specs.Bounds.{In-bounds}
 use Rattle.job.specs.Numbers.{problemOf}
 use Rattle.job.specs.Points.{aPoint, gradient}
 use Rattle.job.specs.Rows.{excess, outside}
-use Rattle.job.specs.Tests.{within, allWithin}
+use Rattle.duality.specs.Tests.{within, allWithin}
 use Rattle.job.specs.declared.numbers.Job.{Job}
 use Rattle.job.proofs.Bits.{back}
 use Rattle.job.proofs.Gradient.{gradient-shift, cost-by-gradient}
 use Rattle.job.proofs.Reading.{l-small, u-small, row-small, gradient-small}
-use Rattle.job.proofs.Tests.{all-from}
+use Rattle.duality.proofs.Tests.{all-from}
 use Rattle.walk.specs.Running.{Tracks, Tame, outsideAfter, gainOf, Raised, Shifted}
 use Rattle.walk.specs.declared.running.Running.{Running}
 

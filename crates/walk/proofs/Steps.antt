@@ -18,7 +18,7 @@ use Rattle.job.specs.Bounds.{In-bounds}
 use Rattle.job.specs.Numbers.{problemOf}
 use Rattle.job.specs.Rows.{outside}
 use Rattle.job.specs.declared.numbers.Job.{Job}
-use Rattle.job.proofs.Tests.{between-parts, between-from}
+use Rattle.duality.proofs.Tests.{between-parts, between-from}
 use Rattle.walk.specs.Lowering.{Below, Step, lower, below, allowed, lowers}
 use Rattle.walk.specs.Laws.{Descent}
 use Rattle.walk.specs.Moves.{stepOf, after, candidates}

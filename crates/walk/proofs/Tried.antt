@@ -11,7 +11,7 @@ use Rattle.duality.specs.Lists.{places}
 use Rattle.duality.proofs.Ring.{lin}
 use Rattle.job.specs.Bounds.{In-bounds}
 use Rattle.job.specs.Numbers.{problemOf}
-use Rattle.job.specs.Tests.{between}
+use Rattle.duality.specs.Tests.{between}
 use Rattle.job.specs.declared.numbers.Job.{Job}
 use Rattle.walk.specs.Lowering.{below, allowed, lowers}
 use Rattle.walk.specs.Moves.{stepOf, after}

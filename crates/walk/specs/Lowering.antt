@@ -11,7 +11,7 @@ use Rattle.duality.specs.Sums.{Vector}
 use Rattle.duality.specs.Problem.{Problem, cost}
 use Rattle.job.specs.Numbers.{problemOf}
 use Rattle.job.specs.Rows.{outside}
-use Rattle.job.specs.Tests.{between}
+use Rattle.duality.specs.Tests.{between}
 use Rattle.job.specs.declared.numbers.Job.{Job}
 use Rattle.walk.specs.Moves.{sizes, stepOf, after}
 use Rattle.walk.specs.declared.moves.Move.{Move}

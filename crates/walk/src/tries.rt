@@ -4,7 +4,7 @@ ghost use mathlib.Core.Bool.{cond, false};
 ghost use Prim.Native.Nat.{_<_, _≤_};
 ghost use lib.IntN.{natAbs, _-ℤ_};
 ghost use Rattle.job.specs.Bounds.{In-bounds};
-ghost use Rattle.job.specs.Tests.{between as betweenOf};
+ghost use Rattle.duality.specs.Tests.{between as betweenOf};
 ghost use Rattle.walk.specs.Lowering.{lowers};
 ghost use Rattle.walk.specs.Moves.{after as afterMove};
 ghost use Rattle.walk.specs.Running.{Tracks, Tame, looksLower};

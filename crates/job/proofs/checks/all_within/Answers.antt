@@ -8,8 +8,8 @@ use borrow.Author.Needs.{needs}
 use Rattle.std.proofs.shelf.Signed.{toZ-ofZ}
 use Rattle.std.proofs.shelf.Tests.{le-leb, lt-leb}
 use Rattle.duality.specs.Lists.{places}
-use Rattle.job.specs.Tests.{within}
-use Rattle.job.proofs.Tests.{all-more, all-not}
+use Rattle.duality.specs.Tests.{within}
+use Rattle.duality.proofs.Tests.{all-more, all-not}
 use Rattle.job.proofs.checks.all_within.Needs as need
 
 pub returns-then-unsigned-abs-limit : need.returns-then-unsigned-abs-limit

@@ -1,7 +1,7 @@
 use mathlib.Core.Bool.{true}
 use mathlib.Core.Path.{_≡_}
 use Rattle.duality.specs.Lists.{places}
-use Rattle.job.specs.Tests.{all, within}
+use Rattle.duality.specs.Tests.{all, within}
 use Rattle.job.proofs.checks.all_within.Given as given
 
 abbrev pub Inv-loop-i : given.InvT-loop-i

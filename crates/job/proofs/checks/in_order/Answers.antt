@@ -3,7 +3,7 @@ use lib.Signed.{leZ, _≤ℤ_, _<ℤ_}
 use borrow.Author.Needs.{needs}
 use Rattle.std.proofs.shelf.Signed.{ints}
 use Rattle.duality.specs.Lists.{places}
-use Rattle.job.proofs.Tests.{all-more, all-not, le-leZ, lt-leZ}
+use Rattle.duality.proofs.Tests.{all-more, all-not, le-leZ, lt-leZ}
 use Rattle.job.proofs.checks.in_order.Needs as need
 
 pub returns-then-lows-i : need.returns-then-lows-i

@@ -2,7 +2,7 @@ use mathlib.Core.Bool.{true}
 use mathlib.Core.Path.{_≡_}
 use lib.Signed.{leZ}
 use Rattle.duality.specs.Lists.{places}
-use Rattle.job.specs.Tests.{all}
+use Rattle.duality.specs.Tests.{all}
 use Rattle.job.proofs.checks.in_order.Given as given
 
 abbrev pub Inv-loop-i : given.InvT-loop-i

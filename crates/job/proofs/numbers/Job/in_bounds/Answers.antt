@@ -6,7 +6,7 @@ use mir.Val.{SFits}
 use Rattle.std.proofs.shelf.Signed.{toZ-ofZ}
 use Rattle.duality.specs.Lists.{places}
 use Rattle.job.proofs.Reading.{l-read, u-read}
-use Rattle.job.proofs.Tests.{all-more}
+use Rattle.duality.proofs.Tests.{all-more}
 use Rattle.job.proofs.Holding.{lies, lies-is, in-bounds-decides, wrong-length, breaks, lie-all}
 use Rattle.job.proofs.numbers.Job.in_bounds.Needs as need
 

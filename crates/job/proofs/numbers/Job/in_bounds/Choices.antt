@@ -1,7 +1,7 @@
 use mathlib.Core.Bool.{true}
 use mathlib.Core.Path.{_≡_}
 use Rattle.duality.specs.Lists.{places}
-use Rattle.job.specs.Tests.{all, between}
+use Rattle.duality.specs.Tests.{all, between}
 use Rattle.job.specs.Numbers.{problemOf}
 use Rattle.job.proofs.numbers.Job.in_bounds.Given as given
 

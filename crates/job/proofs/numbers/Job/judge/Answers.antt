@@ -7,10 +7,10 @@ use Rattle.std.proofs.shelf.Tests.{cond-true}
 use Rattle.duality.specs.Lists.{places}
 use Rattle.job.specs.Numbers.{problemOf}
 use Rattle.job.specs.Rows.{meets, verdict}
-use Rattle.job.specs.Tests.{firstNot}
+use Rattle.duality.specs.Tests.{firstNot}
 use Rattle.job.proofs.Bits.{back-of}
 use Rattle.job.proofs.Reading.{point-small, row-small, hi-read, lo-read}
-use Rattle.job.proofs.Tests.{first-more, first-at, first-none}
+use Rattle.duality.proofs.Tests.{first-more, first-at, first-none}
 use Rattle.job.proofs.Outside.{meets-is, row-met, row-broken}
 use Rattle.job.proofs.numbers.Job.judge.Needs as need
 

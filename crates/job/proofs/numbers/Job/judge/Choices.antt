@@ -1,7 +1,7 @@
 use mathlib.Core.Path.{_≡_}
 use Rattle.std.specs.declared.option.Option.the-variants.{None}
 use Rattle.duality.specs.Lists.{places}
-use Rattle.job.specs.Tests.{firstNot}
+use Rattle.duality.specs.Tests.{firstNot}
 use Rattle.job.specs.Numbers.{problemOf}
 use Rattle.job.specs.Rows.{meets}
 use Rattle.job.proofs.numbers.Job.judge.Given as given

@@ -14,8 +14,8 @@ use Rattle.std.proofs.shelf.Signed.{ints}
 use Rattle.std.proofs.shelf.Tests.{cases-lt, and-parts, and-from, and-left, and-right, leb-true}
 use Rattle.std.specs.declared.option.Option.{Option}
 use Rattle.std.specs.declared.option.Option.the-variants.{Some, None}
 use Rattle.duality.specs.Lists.{places}
-use Rattle.job.specs.Tests.{all, orHere, firstNot, within, allWithin, between, inOrder}
+use Rattle.duality.specs.Tests.{all, orHere, firstNot, within, allWithin, between, inOrder}
 
 pub all-more : (p : ℕ → Bool) (i : ℕ) → all p i ≡ true → p i ≡ true → all p (i + 1) ≡ true
 all-more p i e t = rw add-one (and-from (all p i) (p i) e t)
