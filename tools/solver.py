@@ -100,3 +100,80 @@ def nearest(x):
     if abs(x) - whole >= 0.5:
         whole += 1
     return whole if x >= 0 else -whole
+
+
+def held(low, x, high):
+    return max(low, min(high, x))
+
+
+def step_lines(job, members):
+    """The lines of a step: a line for each rope, and one for each member of the working set as they entered."""
+
+    def weight(member, r):
+        kind, index, _ = member
+        return job.a[index][r] if kind == "row" else int(index == r)
+
+    def limit(member):
+        kind, index, side = member
+        low, high = (job.lo, job.hi) if kind == "row" else (job.l, job.u)
+        return low[index] if side == "lower" else high[index]
+
+    lines = []
+    for r in range(job.n):
+        lines.append([*job.g[r], *[-weight(w, r) for w in members], -job.c[r]])
+    for w in members:
+        lines.append([*[weight(w, r) for r in range(job.n)], *[0] * len(members), limit(w)])
+    return [[float(x) for x in line] for line in lines]
+
+
+def entering(job, members, x):
+    """The row or bound that x breaks by most ticks, among those that are not in the set on either side."""
+    most, who = 0, None
+    taken = {(kind, index) for kind, index, _ in members}
+    checks = [("row", i, job.lo[i], dot(job.a[i], x), job.hi[i]) for i in range(job.m)]
+    checks += [("bound", j, job.l[j], x[j], job.u[j]) for j in range(job.n)]
+    for kind, index, low, s, high in checks:
+        if (kind, index) not in taken:
+            if low - s > most:
+                most, who = low - s, (kind, index, "lower")
+            if s - high > most:
+                most, who = s - high, (kind, index, "upper")
+    return who
+
+
+def leaving(members, y):
+    """The place of the member whose multiplier is most wrong."""
+    most, who = 0, None
+    for place, (_, _, side) in enumerate(members):
+        wrong = -y[place] if side == "lower" else y[place]
+        if wrong > most:
+            most, who = wrong, place
+    return who
+
+
+def exchange(job, budget):
+    """(offers, steps, end, smallest pivot size); an offer is a point and a multiplier for each row."""
+    members, offers, smallest, steps = [], [], MOST, 0
+    while steps < budget:
+        steps += 1
+        smallest, unknowns = solve_system(step_lines(job, members), smallest)
+        if unknowns is None:
+            return offers, steps, "stuck", smallest
+        x = [nearest(v) for v in unknowns[: job.n]]
+        y = [nearest(v * 256.0) for v in unknowns[job.n :]]
+        multipliers = [0] * job.m
+        for (kind, index, _), value in zip(members, y):
+            if kind == "row":
+                multipliers[index] = held(-16777216, value, 16777216)
+        offers.append(([held(low, v, high) for low, v, high in zip(job.l, x, job.u)], multipliers))
+        who = entering(job, members, x)
+        if who is not None:
+            if len(members) == job.n:
+                return offers, steps, "full", smallest
+            members.append(who)
+            continue
+        place = leaving(members, y)
+        if place is None:
+            return offers, steps, "done", smallest
+        del members[place]
+    return offers, steps, "spent", smallest
