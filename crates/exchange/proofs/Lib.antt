@@ -1,1 +1,4 @@
+pub mod Numbers
 pub mod Filling
+pub mod Folds
+pub mod Choosing

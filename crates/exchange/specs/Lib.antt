@@ -1,2 +1,5 @@
 pub mod Members
 pub mod Systems
+pub mod Breaches
+pub mod Choice
+pub mod Rounding

@@ -20,3 +20,30 @@ pub struct Member {
     pub limit: Limit,
     pub side: Side,
 }
+
+/// How many ticks a point lies outside a limit, and the member that would hold it inside.
+#[derive(Clone, Copy)]
+pub struct Breach {
+    pub ticks: i64,
+    pub member: Member,
+}
+
+/// How far a multiplier lies on the wrong side of 0, and whose it is.
+#[derive(Clone, Copy)]
+pub struct Wrong {
+    pub size: u64,
+    pub place: usize,
+}
+
+/// What becomes of the working set after a step.
+#[derive(Clone, Copy)]
+pub enum Choice {
+    /// This member enters.
+    Enter(Member),
+    /// The member at this place leaves.
+    Leave(usize),
+    /// A limit is broken, and the set is full.
+    Full,
+    /// No limit is broken and no multiplier is wrong.
+    Done,
+}
