@@ -1,9 +1,11 @@
 -- Which limit a point breaks most.
-use Prim.Native.Nat.{ℕ, zero, suc}
+use Prim.Native.Nat.{ℕ, zero, suc, _<_}
 use mathlib.Core.Bool.{Bool, true, false, cond, _||_}
 use mathlib.Core.List.{List, [], _∷_}
 use lib.Dec.{eqb}
 use lib.IntN.{ℤ, pos}
+use lib.ListN.{length, getD, take}
+use mathlib.Core.Path.{_≡_}
 use lib.Signed.{ltZ}
 use Rattle.duality.specs.Lists.{places}
 use Rattle.duality.specs.Problem.{Problem, rowAt}
@@ -26,6 +28,10 @@ same (Bound j) (Bound k) = eqb j k
 abbrev pub holds : List Member → Limit → Bool
 holds [] v = false
 holds (w ∷ ms) v = same (w .limit) v || holds ms v
+
+-- no limit is held twice: no member's limit is held by those before it
+abbrev pub Apart : List Member → Type 0
+Apart ms = (k : ℕ) (d : Member) → k < length ms → holds (take k ms) (getD ms k d .limit) ≡ false
 
 -- what a limit limits: the row's sum, or the rope's pull
 abbrev pub valueAt : Problem → List ℤ → Limit → ℤ

@@ -3,3 +3,5 @@ pub mod Systems
 pub mod Breaches
 pub mod Choice
 pub mod Rounding
+pub mod Offers
+pub mod Steps

@@ -1,8 +1,9 @@
 -- Limits, and the members of a working set.
 use Prim.Native.Nat.{ℕ, _<_}
-use mathlib.Core.Bool.{cond}
+use mathlib.Core.Bool.{Bool, true, cond}
+use mathlib.Core.Path.{_≡_}
 use mathlib.Core.List.{List}
-use lib.Dec.{eqb}
+use lib.Dec.{eqb, ltb}
 use lib.IntN.{ℤ, pos}
 use lib.ListN.{length, getD}
 use Rattle.duality.specs.Problem.{Problem}
@@ -19,6 +20,14 @@ Of n m (Bound j) = j < n
 
 abbrev pub OfAll : ℕ → ℕ → List Member → Type 0
 OfAll n m ms = (k : ℕ) (d : Member) → k < length ms → Of n m (getD ms k d .limit)
+
+-- the same as a test
+abbrev pub isOf : ℕ → ℕ → Limit → Bool
+isOf n m (Row i) = ltb i m
+isOf n m (Bound j) = ltb j n
+
+abbrev pub Fitting : ℕ → ℕ → List Member → Type 0
+Fitting n m ms = (k : ℕ) (d : Member) → k < length ms → isOf n m (getD ms k d .limit) ≡ true
 
 -- v at rope j: a row's weight there, or 1 at a bound's own rope
 abbrev pub weight : Problem → Limit → ℕ → ℤ

@@ -16,7 +16,8 @@ use crate::systems::high;
 use crate::systems::low;
 use job::Job;
 
-fn same(a: Limit, b: Limit) -> bool
+/// Whether two limits are one.
+pub(crate) fn same(a: Limit, b: Limit) -> bool
     ensures { λ r. ⌜ r ≡ sameOf a b ⌝ }
 {
     match (a, b) {

@@ -3,10 +3,17 @@
 //! It computes in f64 and settles nothing: what it offers is judged in whole numbers by others.
 mod breaches;
 mod choices;
+mod exchanges;
 mod members;
+mod offers;
 mod rounds;
+mod steps;
 mod systems;
 
+pub use exchanges::Exchange;
+pub use members::Choice;
 pub use members::Limit;
 pub use members::Member;
+pub use members::Offer;
 pub use members::Side;
+pub use members::Step;

@@ -35,6 +35,13 @@ pub struct Wrong {
     pub place: usize,
 }
 
+/// What a step offers: a point inside the bounds, and a multiplier in 256ths for each row. Places past the ropes and the rows are 0.
+#[derive(Clone, Copy)]
+pub struct Offer {
+    pub point: [i64; 16],
+    pub multipliers: [i64; 32],
+}
+
 /// What becomes of the working set after a step.
 #[derive(Clone, Copy)]
 pub enum Choice {
@@ -46,4 +53,15 @@ pub enum Choice {
     Full,
     /// No limit is broken and no multiplier is wrong.
     Done,
+}
+
+/// What a step came to.
+#[derive(Clone, Copy)]
+pub enum Step {
+    /// The job has other sizes than the exchange was made for: nothing was done.
+    Refused,
+    /// The step's system has no solution within the limits: nothing is offered, and the working set stays.
+    Stuck,
+    /// What the step offers, and how the working set changed.
+    Found(Offer, Choice),
 }
