@@ -6,3 +6,4 @@ pub mod Readings
 pub mod Sets
 pub mod Following
 pub mod Stepping
+pub mod Running

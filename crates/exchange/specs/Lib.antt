@@ -5,3 +5,4 @@ pub mod Choice
 pub mod Rounding
 pub mod Offers
 pub mod Steps
+pub mod Runs

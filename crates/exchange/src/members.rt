@@ -65,3 +65,24 @@ pub enum Step {
     /// What the step offers, and how the working set changed.
     Found(Offer, Choice),
 }
+
+/// How an exchange ends.
+#[derive(Clone, Copy)]
+pub enum End {
+    /// No limit is broken and no multiplier is wrong.
+    Done,
+    /// A limit is broken, and the working set has as many members as there are ropes.
+    Full,
+    /// A step's system has no solution within the limits.
+    Stuck,
+    /// A further step is due, and the budget is used.
+    Spent,
+}
+
+/// What is said of a whole exchange: steps begun, its end, and the smallest size of a pivot taken, 0 if none.
+#[derive(Clone, Copy)]
+pub struct Report {
+    pub steps: usize,
+    pub end: End,
+    pub smallest: f64,
+}
