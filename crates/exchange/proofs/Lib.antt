@@ -7,3 +7,4 @@ pub mod Sets
 pub mod Following
 pub mod Stepping
 pub mod Running
+pub mod Offering

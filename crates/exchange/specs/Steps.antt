@@ -1,17 +1,20 @@
 -- A step of the exchange, and the whole of it.
 use Prim.Native.Nat.{ℕ, zero, suc, _+_, _<_}
-use mathlib.Core.Bool.{Bool, cond, false, _&&_}
+use mathlib.Core.Bool.{Bool, true, false, cond, _&&_}
 use mathlib.Core.List.{List, [], _∷_, _++_}
 use mathlib.Core.Path.{_≡_}
 use lib.Dec.{eqb}
 use lib.Ieee.{Float}
 use lib.IntN.{ℤ}
-use lib.ListN.{length}
+use lib.ListN.{length, take}
 use Rattle.std.specs.shelf.Lists.{removed}
 use Rattle.std.specs.declared.option.Option.{Option}
 use Rattle.std.specs.declared.option.Option.the-variants.{Some, None}
 use Rattle.duality.specs.Problem.{Problem}
 use Rattle.elimination.specs.Lines.{solved, largest, none}
+use Rattle.job.specs.Bounds.{In-bounds}
+use Rattle.job.specs.Tests.{allWithin}
+use Rattle.job.specs.declared.numbers.Job.{Job}
 use Rattle.exchange.specs.Members.{Of}
 use Rattle.exchange.specs.Systems.{systemOf}
 use Rattle.exchange.specs.Breaches.{holds}
@@ -64,3 +67,9 @@ abbrev pub membersAfter : List Member → Step → List Member
 membersAfter ms Refused = ms
 membersAfter ms Stuck = ms
 membersAfter ms (Found o ch) = changed ms ch
+
+-- Law: a step offers a point inside the bounds, and multipliers inside their limit; one that is stuck or refused offers nothing.
+abbrev pub Offers-inside : Job → Step → Type 0
+Offers-inside j Refused = Unit {0}
+Offers-inside j Stuck = Unit {0}
+Offers-inside j (Found o ch) = In-bounds j (take (j .ropes) (o .point)) × (allWithin 16777216 (take (j .rows) (o .multipliers)) ≡ true)

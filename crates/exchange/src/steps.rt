@@ -10,7 +10,7 @@ ghost use Rattle.job.specs.Numbers.{problemOf};
 ghost use Rattle.elimination.specs.Lines.{at, inside, largest};
 ghost use Rattle.exchange.specs.Members.{OfAll};
 ghost use Rattle.exchange.specs.Offers.{offered};
-ghost use Rattle.exchange.specs.Steps.{changed, Follows, choiceAt, fits, stepOf, smallestAfter, membersAfter};
+ghost use Rattle.exchange.specs.Steps.{changed, Follows, choiceAt, fits, stepOf, smallestAfter, membersAfter, Offers-inside};
 use crate::choices::choose;
 use crate::exchanges::Exchange;
 use crate::members::Choice;
@@ -87,6 +87,7 @@ impl Exchange {
             ≡ smallestAfter (problemOf (now (job .entry))) (now (self .entry) .ropes) (now (self .entry) .rows) (vec-items (now (self .entry) .members)) (now (self .entry) .smallest) ⌝ }
         ensures ropes { λ _. ⌜ now (self .exit) .ropes ≡ now (self .entry) .ropes ⌝ }
         ensures rows { λ _. ⌜ now (self .exit) .rows ≡ now (self .entry) .rows ⌝ }
+        ensures law { λ r. ⌜ Offers-inside (now (job .entry)) r ⌝ }
     {
         if !self.is_for(job) {
             return Step::Refused;

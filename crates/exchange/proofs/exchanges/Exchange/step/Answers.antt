@@ -12,10 +12,12 @@ use Rattle.std.specs.declared.option.Option.the-variants.{Some, None}
 use Rattle.job.specs.Numbers.{problemOf}
 use Rattle.elimination.specs.Lines.{padded, Solves}
 use Rattle.exchange.specs.Offers.{offered, pullsOf, pressuresOf}
-use Rattle.exchange.specs.Steps.{Follows, choiceAt, changed, solvedAt}
+use Rattle.exchange.specs.Steps.{Follows, choiceAt, solvedAt, Offers-inside}
 use Rattle.exchange.specs.declared.members.Choice.{Choice}
 use Rattle.exchange.specs.declared.members.Member.{Member}
-use Rattle.exchange.proofs.Sets.{of-all}
+use Rattle.exchange.specs.declared.members.Offer.{Offer}
+use Rattle.exchange.specs.declared.members.Step.the-variants.{Found}
+use Rattle.exchange.proofs.Offering.{offered-inside}
 use Rattle.exchange.proofs.Following.{chosen-follows}
 use Rattle.exchange.proofs.Stepping.{Pair, system-solved, none-from, some-from, array-inside, array-front, sizes-fit, step-refused, smallest-kept, step-stuck, step-found, smallest-noted}
 use Rattle.exchange.proofs.exchanges.Exchange.step.Needs as need
@@ -30,7 +32,8 @@ returns-then-not-is-for c =
       members = refl;
       smallest = smallest-kept P (e .ropes) (e .rows) (vec-items (e .members)) (e .smallest) f;
       ropes = refl;
-      rows = refl }
+      rows = refl;
+      law = tt }
 
 pub returns-in-None : need.returns-in-None
 returns-in-None c =
@@ -48,7 +51,8 @@ returns-in-None c =
       members = refl;
       smallest = smallest-noted P (e .ropes) (e .rows) ms (e .smallest) _ f (c .solve-solution .ensures .smallest ∙ ap (λ (p : Pair). p .0) q);
       ropes = refl;
-      rows = refl }
+      rows = refl;
+      law = tt }
 
 pub reading-choice-requires : need.reading-choice-requires
 reading-choice-requires c κs =
@@ -105,12 +109,14 @@ returns-in-Some c =
     let k : c .len .result ≡ length ms = c .len .ensures ∙ e .members .ok .0 in
     let d = c .deref-in-Some .ensures .value in
     let r : take (j .ropes + length ms) X ≡ us = ap (λ (i : ℕ). take (j .ropes + i) X) (sym k) ∙ array-front (j .ropes + c .len .result) us X (u .1 .1) w in
+    let o = c .reading-choice .ensures .offer ∙ ap (λ (x : List Member). offered P x (take (j .ropes + length x) X)) d ∙ ap (offered P ms) r in
+    let L : Offer → Type 0 = λ y. Offers-inside j (Found y (c .reading-choice .result .1)) in
     record {
       value =
-        step-found P (e .ropes) (e .rows) ms (e .smallest) us (c .reading-choice .result .0) (c .reading-choice .result .1) f (u .1 .0)
-        (c .reading-choice .ensures .offer ∙ ap (λ (x : List Member). offered P x (take (j .ropes + length x) X)) d ∙ ap (offered P ms) r)
+        step-found P (e .ropes) (e .rows) ms (e .smallest) us (c .reading-choice .result .0) (c .reading-choice .result .1) f (u .1 .0) o
         (c .reading-choice .ensures .choice ∙ ap (λ (x : List Member). choiceAt P x (take (j .ropes + length x) X)) d ∙ ap (choiceAt P ms) r);
       members = c .follow .ensures .members;
       smallest = c .follow .ensures .smallest ∙ smallest-noted P (e .ropes) (e .rows) ms (e .smallest) _ f (c .solve-solution .ensures .smallest ∙ ap (λ (p : Pair). p .0) q);
       ropes = c .follow .ensures .ropes;
-      rows = c .follow .ensures .rows }
+      rows = c .follow .ensures .rows;
+      law = subst L (sym o) (offered-inside j ms us (c .reading-choice .result .1) (omega (arith, w .0))) }
