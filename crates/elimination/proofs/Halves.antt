@@ -14,7 +14,7 @@ use Rattle.std.specs.Floats.{roundAway, wholeBy}
 use Rattle.elimination.specs.Nearest.{withSignOf, halfAway, nearestWhole, moderate}
 
 -- the cast of a float that has a small whole value
-cast-whole : (y : Float) (s : Bool) (q : ℕ) → q ≤ 2 ^ 38 → HasValue y s q 1 → toSigned 63 y ≡ withSignOf s q
+pub cast-whole : (y : Float) (s : Bool) (q : ℕ) → q ≤ 2 ^ 38 → HasValue y s q 1 → toSigned 63 y ≡ withSignOf s q
 unfolding toSigned
 cast-whole nan s q h v = absurd v
 cast-whole (inf t) s q h v = absurd v

@@ -4,3 +4,4 @@ pub mod Steps
 pub mod Back
 pub mod Halves
 pub mod Whole
+pub mod Inside

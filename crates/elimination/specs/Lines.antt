@@ -1,8 +1,9 @@
 -- Gaussian elimination over the rounded operations of binary64, on lists of lines.
 -- A line of a system of n unknowns has n coefficients, and then its right side.
-use mathlib.Core.Bool.{Bool, cond, _&&_}
+use mathlib.Core.Bool.{Bool, true, cond, _&&_}
+use mathlib.Core.Path.{_≡_}
 use mathlib.Core.List.{List, [], _∷_, _++_, map}
-use Prim.Native.Nat.{ℕ, zero, suc, _+_, _-_}
+use Prim.Native.Nat.{ℕ, zero, suc, _+_, _-_, _<_}
 use lib.Dec.{leb}
 use lib.Ieee.{Float, nan, fin, binary64, sub, mul, div, lt}
 use lib.IntN.{pos, negsuc}
@@ -132,3 +133,8 @@ solvedIn n s ls = cond (leb n 32) (solved s (seen (n + 1) (take n ls))) (s, None
 -- filled up with 0 to 32 places
 abbrev pub padded : List Float → List Float
 padded xs = xs ++ replicate (32 - length xs) none
+
+-- Law: where a system is solved, there is an unknown for each line, strictly inside the bound.
+abbrev pub Solves : ℕ → Option (List Float) → Type 0
+Solves n None = Unit {0}
+Solves n (Some us) = (length us ≡ n) × ((k : ℕ) → k < length us → inside (at us k) ≡ true)

@@ -5,7 +5,7 @@ ghost use Prim.Native.Nat.{_+_, _≤_};
 ghost use lib.ListN.{length};
 ghost use Rattle.std.specs.Options.{mapped};
 ghost use Rattle.std.specs.declared.option.Option.the-variants.{Some, None};
-ghost use Rattle.elimination.specs.Lines.{seen, solved, solvedIn, padded};
+ghost use Rattle.elimination.specs.Lines.{seen, solved, solvedIn, padded, Solves};
 use crate::columns::eliminate;
 use crate::unknowns::back_substitute;
 
@@ -33,6 +33,7 @@ fn solve_lines(lines: &mut [[f64; 33]], smallest: &mut f64, unknowns: &mut [f64]
 pub fn solve(mut lines: [[f64; 33]; 32], n: usize, mut smallest: f64) -> Solution
     ensures smallest { λ r. ⌜ r .smallest ≡ solvedIn n smallest lines .0 ⌝ }
     ensures unknowns { λ r. ⌜ r .unknowns ≡ mapped padded (solvedIn n smallest lines .1) ⌝ }
+    ensures law { λ _. ⌜ Solves n (solvedIn n smallest lines .1) ⌝ }
 {
     if n > 32 {
         return Solution { unknowns: None, smallest };
