@@ -18,10 +18,10 @@ use Rattle.duality.specs.Lists.{places}
 use Rattle.duality.specs.Problem.{Problem}
 use Rattle.job.specs.Bounds.{In-bounds, held}
 use Rattle.job.specs.Numbers.{problemOf}
-use Rattle.job.specs.Tests.{within, allWithin}
+use Rattle.duality.specs.Tests.{within, allWithin}
 use Rattle.job.specs.declared.numbers.Job.{Job}
 use Rattle.job.proofs.Holding.{held-in-bounds}
-use Rattle.job.proofs.Tests.{all-from}
+use Rattle.duality.proofs.Tests.{all-from}
 use Rattle.elimination.specs.Nearest.{nearest}
 use Rattle.exchange.specs.Breaches.{same}
 use Rattle.exchange.specs.Rounding.{pulled}

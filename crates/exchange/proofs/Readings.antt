@@ -15,8 +15,8 @@ use Rattle.std.proofs.shelf.Tests.{and-from}
 use Rattle.duality.specs.Lists.{places}
 use Rattle.duality.specs.Problem.{Problem}
 use Rattle.job.specs.Points.{aPoint}
-use Rattle.job.specs.Tests.{within, allWithin}
-use Rattle.job.proofs.Tests.{all-from}
+use Rattle.duality.specs.Tests.{within, allWithin}
+use Rattle.duality.proofs.Tests.{all-from}
 use Rattle.elimination.specs.Lines.{at, inside}
 use Rattle.elimination.specs.Nearest.{nearest}
 use Rattle.elimination.proofs.Inside.{nearest-within}

@@ -13,7 +13,7 @@ use Rattle.std.specs.declared.option.Option.the-variants.{Some, None}
 use Rattle.duality.specs.Problem.{Problem}
 use Rattle.elimination.specs.Lines.{solved, largest, none}
 use Rattle.job.specs.Bounds.{In-bounds}
-use Rattle.job.specs.Tests.{allWithin}
+use Rattle.duality.specs.Tests.{allWithin}
 use Rattle.job.specs.declared.numbers.Job.{Job}
 use Rattle.exchange.specs.Members.{Of}
 use Rattle.exchange.specs.Systems.{systemOf}
