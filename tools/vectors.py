@@ -3,9 +3,11 @@
 
   tools/vectors.py DIR       writes DIR/stdin, a case to a line, and DIR/stdout, an answer to a line
 
-The seed is fixed, so the files can be made again. A line of whole numbers begins with 0 for a walk or 1 for a system. A walk has the number of
+The seed is fixed, so the files can be made again. A line of whole numbers begins with 0 for a walk, 1 for a system
+or 2 for an exchange. A walk has the number of
 ropes, rows and moves, and then G row by row, c, A rope by rope, the limits lo and hi, the bounds l and u, and the point that the walk starts from.
 A system has the number of unknowns, and then line by line its coefficients and the right side, each float as m and e for m times 2 to the e.
+An exchange is written as a walk is, with steps in the place of moves; it answers steps, end, smallest pivot and every offer.
 Floats are answered by their 64 bits."""
 import os
 import math
@@ -14,7 +16,7 @@ import struct
 import sys
 
 sys.path.insert(0, os.path.dirname(os.path.abspath(__file__)))
-from solver import MOST, Job, dot, nearest, solve_system, walk
+from solver import MOST, Job, dot, exchange, nearest, solve_system, walk
 
 
 def between(rng, size):
@@ -52,10 +54,10 @@ def job(rng, k):
     return Job(n, m, curvature(rng, n, rng.randrange(5)), c, a, lo, hi, l, u), start
 
 
-def words(job, budget, start):
+def words(kind, job, budget, start):
     flat = [x for row in job.g for x in row]
     by_rope = [job.a[i][j] for j in range(job.n) for i in range(job.m)]
-    return [0, job.n, job.m, budget, *flat, *job.c, *by_rope, *job.lo, *job.hi, *job.l, *job.u, *start]
+    return [kind, job.n, job.m, budget, *flat, *job.c, *by_rope, *job.lo, *job.hi, *job.l, *job.u, *start]
 
 
 def number(rng, kind):
@@ -101,6 +103,14 @@ def solved(lines):
     return f"solved {bits(smallest)} " + " ".join(f"{bits(x)} {nearest(x)}" for x in unknowns)
 
 
+def exchanged(job, budget):
+    offers, steps, end, smallest = exchange(job, budget)
+    text = f"exchange {steps} {end} {bits(smallest if smallest < MOST else 0.0)}"
+    for point, multipliers in offers:
+        text += " ; " + " ".join(map(str, point + multipliers))
+    return text
+
+
 def main(folder):
     rng = random.Random(7)
     lines, answers = [], []
@@ -108,12 +118,17 @@ def main(folder):
         j, start = job(rng, k)
         budget = rng.choice([0, 1, 2, 3, 7, 30, 200, 5000]) if j.n < 16 else rng.choice([0, 1, 5, 12])
         moves, end, point = walk(j, start, budget)
-        lines.append(" ".join(map(str, words(j, budget, start))))
+        lines.append(" ".join(map(str, words(0, j, budget, start))))
         answers.append(f"walk {moves} {end} " + " ".join(map(str, point)))
     for k in range(400):
         lines_of = system(rng, k)
         lines.append(" ".join(map(str, [1, len(lines_of)] + [x for line in lines_of for pair in line for x in pair])))
         answers.append(solved(lines_of))
+    for k in range(400):
+        j, start = job(rng, k)
+        budget = rng.choice([0, 1, 2, 5, 1000]) if j.n < 16 else rng.choice([3, 9, 1000])
+        lines.append(" ".join(map(str, words(2, j, budget, start))))
+        answers.append(exchanged(j, budget))
     open(os.path.join(folder, "stdin"), "w").write("\n".join(lines) + "\n")
     open(os.path.join(folder, "stdout"), "w").write("\n".join(answers) + "\n")
 

@@ -4,10 +4,16 @@
 //! the limits lo and hi, the bounds l and u, and the point that the walk starts from.
 //! One that begins with 1 is a system: the number of unknowns, and then line by line its coefficients and the right side,
 //! each float as m and e for m times 2 to the e. Floats are answered by their 64 bits.
+//! One that begins with 2 is an exchange, written as a walk is, with steps in the place of moves.
 
 use elimination::Solution;
 use elimination::nearest;
 use elimination::solve;
+use exchange::Exchange;
+use exchange::Offer;
+use exchange::Report;
+use exchange::Step;
+use exchange::end_after;
 use job::Job;
 use std::alloc::AllocError;
 use std::alloc::Global;
@@ -115,10 +121,18 @@ fn run_system(rt: &LibcRuntime, line: &mut Line) -> io::Result<()> {
     print_solution(rt, n, &solve(lines, n, most))
 }
 
-fn run_walk(rt: &LibcRuntime, heap: Global, line: &mut Line) -> Result<(), AnyError> {
+/// A job, the budget and the point that it starts from.
+#[derive(Drop)]
+struct Case {
+    job: Job,
+    budget: usize,
+    point: Vec<i64>,
+}
+
+fn read_case(heap: Global, line: &mut Line) -> Result<Option<Case>, AllocError> {
     let n = line.size();
     let m = line.size();
-    let budget = u32::try_from(line.size()).unwrap_or(0);
+    let budget = line.size();
     let g = line.list(heap, n.saturating_mul(n))?;
     let c = line.list(heap, n)?;
     let a = line.list(heap, n.saturating_mul(m))?;
@@ -126,16 +140,75 @@ fn run_walk(rt: &LibcRuntime, heap: Global, line: &mut Line) -> Result<(), AnyEr
     let hi = line.list(heap, m)?;
     let l = line.list(heap, n)?;
     let u = line.list(heap, n)?;
-    let mut point = line.list(heap, n)?;
-    let Some(job) = Job::new(g, c, a, lo, hi, l, u) else {
+    let point = line.list(heap, n)?;
+    match Job::new(g, c, a, lo, hi, l, u) {
+        Some(job) => Ok(Some(Case { job, budget, point })),
+        None => Ok(None),
+    }
+}
+
+fn run_walk(rt: &LibcRuntime, heap: Global, mut case: Case) -> io::Result<()> {
+    let budget = u32::try_from(case.budget).unwrap_or(0);
+    match walk(heap, &case.job, case.point.as_mut_slice(), budget) {
+        Ok(walked) => print_walk(rt, &walked, case.point.as_slice()),
+        Err(_) => println!(rt, "no walk"),
+    }
+}
+
+fn print_report(rt: &LibcRuntime, report: &Report) -> io::Result<()> {
+    let steps = report.steps;
+    let end = match report.end {
+        exchange::End::Done => "done",
+        exchange::End::Full => "full",
+        exchange::End::Stuck => "stuck",
+        exchange::End::Spent => "spent",
+    };
+    let smallest = bits(report.smallest);
+    print!(rt, "exchange {steps} {end} {smallest}")
+}
+
+fn print_offer(rt: &LibcRuntime, job: &Job, offer: &Offer) -> io::Result<()> {
+    print!(rt, " ;")?;
+    for z in offer.point[0..job.ropes.min(16)].iter() {
+        print!(rt, " {z}")?;
+    }
+    for y in offer.multipliers[0..job.rows.min(32)].iter() {
+        print!(rt, " {y}")?;
+    }
+    Ok(())
+}
+
+fn run_exchange(rt: &LibcRuntime, heap: Global, case: &Case) -> Result<(), AnyError> {
+    print_report(rt, &exchange::run(heap, &case.job, case.budget)?)?;
+    let mut exchange = Exchange::new(heap, &case.job)?;
+    for _ in 0..case.budget {
+        let step = exchange.step(&case.job);
+        if let Step::Found(offer, _) = step {
+            print_offer(rt, &case.job, &offer)?;
+        }
+        if end_after(step).is_some() {
+            break;
+        }
+    }
+    println!(rt, "")?;
+    Ok(())
+}
+
+fn run_case(rt: &LibcRuntime, heap: Global, kind: i64, line: &mut Line) -> Result<(), AnyError> {
+    if kind == 1 {
+        run_system(rt, line)?;
+        return Ok(());
+    }
+    let Some(case) = read_case(heap, line)? else {
         println!(rt, "no job")?;
         return Ok(());
     };
-    match walk(heap, &job, point.as_mut_slice(), budget) {
-        Ok(walked) => print_walk(rt, &walked, point.as_slice())?,
-        Err(_) => println!(rt, "no walk")?,
+    if kind == 0 {
+        run_walk(rt, heap, case)?;
+        Ok(())
+    } else {
+        run_exchange(rt, heap, &case)
     }
-    Ok(())
 }
 
 fn run(rt: &LibcRuntime) -> Result<(), AnyError> {
@@ -144,11 +217,8 @@ fn run(rt: &LibcRuntime) -> Result<(), AnyError> {
         let text = text?;
         let numbers = numbers(heap, text.as_str())?;
         let mut line = Line { left: numbers.as_slice() };
-        if line.number() == 0 {
-            run_walk(rt, heap, &mut line)?;
-        } else {
-            run_system(rt, &mut line)?;
-        }
+        let kind = line.number();
+        run_case(rt, heap, kind, &mut line)?;
     }
     Ok(())
 }
