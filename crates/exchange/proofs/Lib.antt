@@ -8,3 +8,4 @@ pub mod Following
 pub mod Stepping
 pub mod Running
 pub mod Offering
+pub mod Worst

@@ -6,11 +6,11 @@ use lib.Dec.{eqb}
 use lib.IntN.{ℤ, pos}
 use lib.ListN.{length, getD, take}
 use mathlib.Core.Path.{_≡_}
-use lib.Signed.{ltZ}
+use lib.Signed.{ltZ, _≤ℤ_}
 use Rattle.duality.specs.Lists.{places}
 use Rattle.duality.specs.Problem.{Problem, rowAt}
 use Rattle.job.specs.Rows.{excess}
-use Rattle.exchange.specs.Members.{low, high}
+use Rattle.exchange.specs.Members.{Of, low, high}
 use Rattle.exchange.specs.declared.members.Limit.{Limit}
 use Rattle.exchange.specs.declared.members.Limit.the-variants.{Row, Bound}
 use Rattle.exchange.specs.declared.members.Side.{Side}
@@ -66,3 +66,7 @@ worstRow P ms z = upto (λ b i. worse P ms z b (Row i)) unbroken (P .rows)
 
 unfoldable pub worst : Problem → List Member → List ℤ → Breach
 worst P ms z = upto (λ b j. worse P ms z b (Bound j)) (worstRow P ms z) (P .ropes)
+
+-- no limit of the problem that is not held is broken by more than t ticks
+abbrev pub Broken-at-most : Problem → List Member → List ℤ → ℤ → Type 0
+Broken-at-most P ms z t = (v : Limit) → Of (P .ropes) (P .rows) v → holds ms v ≡ false → breach P z v .ticks ≤ℤ t

@@ -1,5 +1,5 @@
 -- How the working set changes after a step.
-use Prim.Native.Nat.{ℕ}
+use Prim.Native.Nat.{ℕ, _≤_}
 use mathlib.Core.Bool.{cond}
 use mathlib.Core.List.{List}
 use lib.Dec.{ltb}
@@ -8,7 +8,7 @@ use lib.ListN.{length}
 use lib.Signed.{ltZ}
 use Rattle.duality.specs.Lists.{places}
 use Rattle.duality.specs.Problem.{Problem}
-use Rattle.exchange.specs.Breaches.{upto, worst}
+use Rattle.exchange.specs.Breaches.{upto, breach, worst, Broken-at-most}
 use Rattle.exchange.specs.Systems.{memberAt}
 use Rattle.exchange.specs.declared.members.Side.{Side}
 use Rattle.exchange.specs.declared.members.Side.the-variants.{Lower, Upper}
@@ -39,3 +39,10 @@ chosen P ms z ys =
     cond (ltZ (pos 0) (worst P ms z .ticks))
       (cond (ltb (length ms) (P .ropes)) (Enter (worst P ms z .member)) Full)
       (cond (ltb 0 (mostWrong ms ys .size)) (Leave (mostWrong ms ys .place)) Done)
+
+-- Law: who enters is broken by no fewer ticks than any other limit that is not held; where a member leaves, or none does, no such limit is broken.
+abbrev pub Chosen-well : Problem → List Member → List ℤ → Choice → Type 0
+Chosen-well P ms z (Enter w) = Broken-at-most P ms z (breach P z (w .limit) .ticks)
+Chosen-well P ms z (Leave k) = Broken-at-most P ms z (pos 0)
+Chosen-well P ms z Full = P .ropes ≤ length ms
+Chosen-well P ms z Done = Broken-at-most P ms z (pos 0)

@@ -1,7 +1,8 @@
 //! One step after another.
 ghost use mathlib.Core.Path.{_≡_};
 ghost use mathlib.Core.Bool.{true};
-ghost use mathlib.Core.List.{[]};
+ghost use mathlib.Core.List.{List, []};
+ghost use lib.Ieee.{Float};
 ghost use Prim.Native.Nat.{ℕ, _+_, _<_, _≤_};
 ghost use lib.ListN.{length, take};
 ghost use Rattle.std.specs.Of.Vec.{vec-items};
@@ -9,7 +10,8 @@ ghost use Rattle.std.specs.Vec.{made};
 ghost use Rattle.job.specs.Numbers.{problemOf};
 ghost use Rattle.elimination.specs.Lines.{at, inside, largest};
 ghost use Rattle.exchange.specs.Members.{OfAll};
-ghost use Rattle.exchange.specs.Offers.{offered};
+ghost use Rattle.exchange.specs.Choice.{Chosen-well};
+ghost use Rattle.exchange.specs.Offers.{offered, pullsOf};
 ghost use Rattle.exchange.specs.Steps.{changed, Follows, choiceAt, fits, stepOf, smallestAfter, membersAfter, Offers-inside};
 use crate::choices::choose;
 use crate::exchanges::Exchange;
@@ -88,6 +90,8 @@ impl Exchange {
         ensures ropes { λ _. ⌜ now (self .exit) .ropes ≡ now (self .entry) .ropes ⌝ }
         ensures rows { λ _. ⌜ now (self .exit) .rows ≡ now (self .entry) .rows ⌝ }
         ensures law { λ r. ⌜ Offers-inside (now (job .entry)) r ⌝ }
+        ensures choice { λ _. ⌜ ((us : List Float) → Chosen-well (problemOf (now (job .entry))) (vec-items (now (self .entry) .members))
+            (pullsOf (problemOf (now (job .entry))) us) (choiceAt (problemOf (now (job .entry))) (vec-items (now (self .entry) .members)) us)) ⌝ }
     {
         if !self.is_for(job) {
             return Step::Refused;

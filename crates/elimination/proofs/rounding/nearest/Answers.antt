@@ -8,7 +8,7 @@ use Rattle.elimination.proofs.rounding.nearest.Needs as need
 pub returns : need.returns
 unfolding nearest
 returns c =
-    let e : c .saturating-f64-to-i64 .result ≡ nearest (c .args .x) = c .saturating-f64-to-i64 .ensures ∙ ap (toSigned 63) (c .round .ensures) in
+    let e : c .saturating-f64-to-i64 .result ≡ nearest (c .args .x) = cc in
     record {
       value = search (needs, e);
       law = λ m. let f : c .saturating-f64-to-i64 .result ≡ nearestWhole (c .args .x) = e ∙ nearest-law (c .args .x) m in search (needs, f) }

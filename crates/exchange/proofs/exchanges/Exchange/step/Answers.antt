@@ -18,6 +18,7 @@ use Rattle.exchange.specs.declared.members.Member.{Member}
 use Rattle.exchange.specs.declared.members.Offer.{Offer}
 use Rattle.exchange.specs.declared.members.Step.the-variants.{Found}
 use Rattle.exchange.proofs.Offering.{offered-inside}
+use Rattle.exchange.proofs.Worst.{chosen-well}
 use Rattle.exchange.proofs.Following.{chosen-follows}
 use Rattle.exchange.proofs.Stepping.{Pair, system-solved, none-from, some-from, array-inside, array-front, sizes-fit, step-refused, smallest-kept, step-stuck, step-found, smallest-noted}
 use Rattle.exchange.proofs.exchanges.Exchange.step.Needs as need
@@ -33,7 +34,8 @@ returns-then-not-is-for c =
       smallest = smallest-kept P (e .ropes) (e .rows) (vec-items (e .members)) (e .smallest) f;
       ropes = refl;
       rows = refl;
-      law = tt }
+      law = tt;
+      choice = λ us. chosen-well P (vec-items (e .members)) (pullsOf P us) (pressuresOf P us) }
 
 pub returns-in-None : need.returns-in-None
 returns-in-None c =
@@ -52,7 +54,8 @@ returns-in-None c =
       smallest = smallest-noted P (e .ropes) (e .rows) ms (e .smallest) _ f (c .solve-solution .ensures .smallest ∙ ap (λ (p : Pair). p .0) q);
       ropes = refl;
       rows = refl;
-      law = tt }
+      law = tt;
+      choice = λ us. chosen-well P ms (pullsOf P us) (pressuresOf P us) }
 
 pub reading-choice-requires : need.reading-choice-requires
 reading-choice-requires c κs =
@@ -119,4 +122,5 @@ returns-in-Some c =
       smallest = c .follow .ensures .smallest ∙ smallest-noted P (e .ropes) (e .rows) ms (e .smallest) _ f (c .solve-solution .ensures .smallest ∙ ap (λ (p : Pair). p .0) q);
       ropes = c .follow .ensures .ropes;
       rows = c .follow .ensures .rows;
-      law = subst L (sym o) (offered-inside j ms us (c .reading-choice .result .1) (omega (arith, w .0))) }
+      law = subst L (sym o) (offered-inside j ms us (c .reading-choice .result .1) (omega (arith, w .0)));
+      choice = λ us. chosen-well P ms (pullsOf P us) (pressuresOf P us) }
