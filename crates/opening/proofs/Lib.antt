@@ -1,3 +1,5 @@
 pub mod Bits
 pub mod Firsts
+pub mod Fitting
 pub mod Slips
+pub mod Stopping

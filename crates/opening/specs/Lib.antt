@@ -1,3 +1,4 @@
 pub mod Refusals
 pub mod Firsts
 pub mod Opening
+pub mod Fits

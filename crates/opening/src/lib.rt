@@ -2,6 +2,7 @@
 
 mod listed;
 mod lists;
+mod opening;
 mod refusal;
 mod slip;
 mod tables;
@@ -10,6 +11,7 @@ pub use block::Fault;
 pub use block::Layer;
 pub use block::Notice;
 pub use lists::Lists;
+pub use opening::opening_fault;
 pub use refusal::List;
 pub use refusal::Refusal;
 pub use refusal::RefusalFromAlloc;
