@@ -63,29 +63,7 @@ first-all p (suc n) h =
     let here : p n ≡ true = h n (omega arith) in
     cc
 
--- the first of six answers, by how many are not given
-module _ {X : Type 0} (s t l m o p : Option X) (x : X) where
-  abbrev six : Option X
-  six = orOther (orOther (orOther (orOther (orOther s t) l) m) o) p
-
-  pub first-of-six : s ≡ Some x → six ≡ Some x
-  first-of-six e = rw e
-
-  pub second-of-six : s ≡ None → t ≡ Some x → six ≡ Some x
-  second-of-six es e = rw (es, e)
-
-  pub third-of-six : s ≡ None → t ≡ None → l ≡ Some x → six ≡ Some x
-  third-of-six es et e = rw (es, et, e)
-
-  pub fourth-of-six : s ≡ None → t ≡ None → l ≡ None → m ≡ Some x → six ≡ Some x
-  fourth-of-six es et el e = rw (es, et, el, e)
-
-  pub fifth-of-six : s ≡ None → t ≡ None → l ≡ None → m ≡ None → o ≡ Some x → six ≡ Some x
-  fifth-of-six es et el em e = rw (es, et, el, em, e)
-
-pub last-of-six : {X : Type 0} (s t l m o p : Option X) → s ≡ None → t ≡ None → l ≡ None → m ≡ None → o ≡ None → orOther (orOther (orOther (orOther (orOther s t) l) m) o) p ≡ p
-last-of-six s t l m o p es et el em eo = rw (es, et, el, em, eo)
-
+-- none of six answers is given
 pub six-none : {X : Type 0} (s t l m o p : Option X) → orOther (orOther (orOther (orOther (orOther s t) l) m) o) p ≡ None →
     (s ≡ None) × (t ≡ None) × (l ≡ None) × (m ≡ None) × (o ≡ None) × (p ≡ None)
 six-none s t l m o p e =
@@ -95,3 +73,7 @@ six-none s t l m o p e =
     let d = or-none (orOther s t) l (c .0) in
     let f = or-none s t (d .0) in
     (f .0, f .1, d .1, c .1, b .1, a .1)
+
+pub six-in : {X : Type 0} (s t l m o p : Option X) → s ≡ None → t ≡ None → l ≡ None → m ≡ None → o ≡ None → p ≡ None →
+    orOther (orOther (orOther (orOther (orOther s t) l) m) o) p ≡ None
+six-in s t l m o p es et el em eo ep = rw (es, et, el, em, eo, ep)

@@ -12,7 +12,7 @@ use lib.Signed.{leZ, _≤ℤ_}
 use Rattle.std.proofs.shelf.Tests.{
   and-parts, and-from, or-cases, or-left, or-right, cond-true, ltb-true, lt-ltb, leb-true, le-leb, eqb-true, eq-eqb, false≢true
 }
-use Rattle.std.specs.Options.{isSome, valueOr, mapped}
+use Rattle.std.specs.Options.{isSome, valueOr, mapped, orOther}
 use Rattle.std.specs.declared.option.Option.{Option}
 use Rattle.std.specs.declared.option.Option.the-variants.{Some, None}
 use Rattle.duality.specs.Convex.{Symmetric, Slip-holds, remainder, around}
@@ -33,7 +33,7 @@ use Rattle.opening.specs.declared.refusal.List.{List as Name}
 use Rattle.opening.specs.declared.refusal.List.the-variants as name
 use Rattle.opening.specs.declared.refusal.Refusal.{Refusal}
 use Rattle.opening.specs.declared.refusal.Refusal.the-variants.{Sizes, Place, Asymmetric, Length, Limit, Slip}
-use Rattle.opening.proofs.Firsts.{or-none, or-both, of-none, of-all, mapped-none, cond-none, first-all, six-none, last-of-six}
+use Rattle.opening.proofs.Firsts.{or-none, or-both, of-none, of-all, mapped-none, cond-none, first-all, six-none, six-in}
 
 -- sizes
 
@@ -131,11 +131,10 @@ long-out n m x e =
 
 long-in : (n m : ℕ) (x : Numbers) → Long n m x → lengthsFault n m x ≡ None
 long-in n m x h =
-    last-of-six (lengthFault name.Costs n (x .c)) (lengthFault name.LowerBounds n (x .l)) (lengthFault name.UpperBounds n (x .u)) (lengthFault name.LowerLimits m (x .lo))
+    six-in (lengthFault name.Costs n (x .c)) (lengthFault name.LowerBounds n (x .l)) (lengthFault name.UpperBounds n (x .u)) (lengthFault name.LowerLimits m (x .lo))
     (lengthFault name.UpperLimits m (x .hi)) (lengthFault name.Slip (n * n) (x .slip))
     (one name.Costs n (x .c) (h .c)) (one name.LowerBounds n (x .l) (h .l)) (one name.UpperBounds n (x .u) (h .u)) (one name.LowerLimits m (x .lo) (h .lo))
-    (one name.UpperLimits m (x .hi) (h .hi))
-    ∙ one name.Slip (n * n) (x .slip) (h .slip)
+    (one name.UpperLimits m (x .hi) (h .hi)) (one name.Slip (n * n) (x .slip) (h .slip))
   where
     one : (list : Name) (k : ℕ) (xs : List ℤ) → length xs ≡ k → lengthFault list k xs ≡ None
     one list k xs d = cond-true (eqb (length xs) k) None (Some (Length list)) (eq-eqb _ _ d)
@@ -162,11 +161,11 @@ limited-out x e =
 
 limited-in : (x : Numbers) → Limited x → limitsFault x ≡ None
 limited-in x h =
-    last-of-six (limitFault name.Costs 268435456 (x .c)) (limitFault name.LowerBounds 32768 (x .l)) (limitFault name.UpperBounds 32768 (x .u))
+    six-in (limitFault name.Costs 268435456 (x .c)) (limitFault name.LowerBounds 32768 (x .l)) (limitFault name.UpperBounds 32768 (x .u))
     (limitFault name.LowerLimits 536870912 (x .lo)) (limitFault name.UpperLimits 536870912 (x .hi)) (limitFault name.Slip 131072 (x .slip))
     (near-in name.Costs 268435456 (x .c) (h .c)) (near-in name.LowerBounds 32768 (x .l) (h .l)) (near-in name.UpperBounds 32768 (x .u) (h .u))
     (near-in name.LowerLimits 536870912 (x .lo) (h .lo)) (near-in name.UpperLimits 536870912 (x .hi) (h .hi))
-    ∙ near-in name.Slip 131072 (x .slip) (h .slip)
+    (near-in name.Slip 131072 (x .slip) (h .slip))
 
 ordered-out : (list : Name) (lows highs : List ℤ) → orderFault list lows highs ≡ None → Ordered lows highs
 ordered-out list lows highs e k h =
@@ -178,11 +177,11 @@ ordered-in list lows highs h = ap (mapped (Limit list)) (first-all (λ k. leZ (p
 
 -- the slip
 
-pub slip-numbers : (g a : Grid) (x : Numbers) → sizesFault g a ≡ None → lengthsFault (heightOf g) (heightOf a) x ≡ None → limitsFault x ≡ None → SlipNumbers (heightOf g) (x .slip)
-slip-numbers g a x s e d =
+pub slip-fits : (g a : Grid) (x : Numbers) (n m : ℕ) → n ≡ heightOf g → sizesFault g a ≡ None → lengthsFault n m x ≡ None → limitsFault x ≡ None → SlipNumbers n (x .slip)
+slip-fits g a x n m q s e d =
     record {
-      few = sized-out g a s .few-ropes;
-      long = long-out (heightOf g) (heightOf a) x e .slip;
+      few = rw q (sized-out g a s .few-ropes);
+      long = long-out n m x e .slip;
       near = all-from (λ k. within 131072 (places (x .slip) k)) (length (x .slip)) (λ k l. le-leb _ _ (limited-out x d .slip k l));
     }
 
@@ -196,36 +195,59 @@ slip-in n G slip h = ap (mapped Slip) (first-all (dominates n (remainder n G (by
 
 -- all of it
 
-fits-out : (g a : Grid) (x : Numbers) → openFault g a x ≡ None → Fits g a x
-fits-out g a x e =
-    let p = six-none (sizesFault g a) (tablesFault g a) (lengthsFault (heightOf g) (heightOf a) x) (limitsFault x) (ordersFault x) (slipFault (heightOf g) (matrixOf g) (x .slip)) e in
-    let s = sized-out g a (p .0) in
-    let t = or-none _ (symmetryFault g) (p .1) in
-    let f = or-none (placesFault 4096 g) (placesFault 1024 a) (t .0) in
-    let o = or-none (orderFault name.LowerBounds (x .l) (x .u)) (orderFault name.LowerLimits (x .lo) (x .hi)) (p .4) in
-    record {
-      sized = s;
-      curved = filled-out 4096 g (f .0);
-      lined = filled-out 1024 a (f .1);
-      symmetric = symmetric-out g (s .square) (t .1);
-      long = long-out (heightOf g) (heightOf a) x (p .2);
-      limited = limited-out x (p .3);
-      bounds-open = ordered-out name.LowerBounds (x .l) (x .u) (o .0);
-      limits-open = ordered-out name.LowerLimits (x .lo) (x .hi) (o .1);
-      slip-holds = slip-out (heightOf g) (matrixOf g) (x .slip) (p .5);
-    }
+-- the checks that follow one another, from the last
+module _ (g a : Grid) (x : Numbers) where
+  abbrev from-slip : Option Refusal
+  from-slip = slipFault (heightOf g) (matrixOf g) (x .slip)
 
-fits-in : (g a : Grid) (x : Numbers) → Fits g a x → openFault g a x ≡ None
-fits-in g a x h =
-    last-of-six (sizesFault g a) (tablesFault g a) (lengthsFault (heightOf g) (heightOf a) x) (limitsFault x) (ordersFault x) (slipFault (heightOf g) (matrixOf g) (x .slip))
-    (sized-in g a (h .sized))
-    (or-both _ (symmetryFault g) (or-both (placesFault 4096 g) (placesFault 1024 a) (filled-in 4096 g (h .curved)) (filled-in 1024 a (h .lined)))
-    (symmetric-in g (h .sized .square) (h .symmetric)))
-    (long-in (heightOf g) (heightOf a) x (h .long))
-    (limited-in x (h .limited))
-    (or-both (orderFault name.LowerBounds (x .l) (x .u)) (orderFault name.LowerLimits (x .lo) (x .hi)) (ordered-in name.LowerBounds (x .l) (x .u) (h .bounds-open))
-    (ordered-in name.LowerLimits (x .lo) (x .hi) (h .limits-open)))
-    ∙ slip-in (heightOf g) (matrixOf g) (x .slip) (h .slip-holds)
+  abbrev from-orders : Option Refusal
+  from-orders = orOther (ordersFault x) from-slip
+
+  abbrev from-limits : Option Refusal
+  from-limits = orOther (limitsFault x) from-orders
+
+  abbrev from-lengths : Option Refusal
+  from-lengths = orOther (lengthsFault (heightOf g) (heightOf a) x) from-limits
+
+  abbrev from-tables : Option Refusal
+  from-tables = orOther (tablesFault g a) from-lengths
+
+  fits-out : openFault g a x ≡ None → Fits g a x
+  fits-out e =
+      let p₁ = or-none (sizesFault g a) from-tables e in
+      let p₂ = or-none (tablesFault g a) from-lengths (p₁ .1) in
+      let p₃ = or-none (lengthsFault (heightOf g) (heightOf a) x) from-limits (p₂ .1) in
+      let p₄ = or-none (limitsFault x) from-orders (p₃ .1) in
+      let p₅ = or-none (ordersFault x) from-slip (p₄ .1) in
+      let t = or-none (orOther (placesFault 4096 g) (placesFault 1024 a)) (symmetryFault g) (p₂ .0) in
+      let f = or-none (placesFault 4096 g) (placesFault 1024 a) (t .0) in
+      let o = or-none (orderFault name.LowerBounds (x .l) (x .u)) (orderFault name.LowerLimits (x .lo) (x .hi)) (p₅ .0) in
+      let s = sized-out g a (p₁ .0) in
+      record {
+        sized = s;
+        curved = filled-out 4096 g (f .0);
+        lined = filled-out 1024 a (f .1);
+        symmetric = symmetric-out g (s .square) (t .1);
+        long = long-out (heightOf g) (heightOf a) x (p₃ .0);
+        limited = limited-out x (p₄ .0);
+        bounds-open = ordered-out name.LowerBounds (x .l) (x .u) (o .0);
+        limits-open = ordered-out name.LowerLimits (x .lo) (x .hi) (o .1);
+        slip-holds = slip-out (heightOf g) (matrixOf g) (x .slip) (p₅ .1);
+      }
+
+  fits-in : Fits g a x → openFault g a x ≡ None
+  fits-in h =
+      or-both (sizesFault g a) from-tables (sized-in g a (h .sized))
+      (or-both (tablesFault g a) from-lengths
+      (or-both (orOther (placesFault 4096 g) (placesFault 1024 a)) (symmetryFault g)
+      (or-both (placesFault 4096 g) (placesFault 1024 a) (filled-in 4096 g (h .curved)) (filled-in 1024 a (h .lined)))
+      (symmetric-in g (h .sized .square) (h .symmetric)))
+      (or-both (lengthsFault (heightOf g) (heightOf a) x) from-limits (long-in (heightOf g) (heightOf a) x (h .long))
+      (or-both (limitsFault x) from-orders (limited-in x (h .limited))
+      (or-both (ordersFault x) from-slip
+      (or-both (orderFault name.LowerBounds (x .l) (x .u)) (orderFault name.LowerLimits (x .lo) (x .hi)) (ordered-in name.LowerBounds (x .l) (x .u) (h .bounds-open))
+      (ordered-in name.LowerLimits (x .lo) (x .hi) (h .limits-open)))
+      (slip-in (heightOf g) (matrixOf g) (x .slip) (h .slip-holds))))))
 
 pub tells-fit : (g a : Grid) (x : Numbers) (r : Option Refusal) → r ≡ openFault g a x → Tells-fit g a x r
 tells-fit g a x r e =

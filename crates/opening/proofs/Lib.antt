@@ -2,4 +2,3 @@ pub mod Bits
 pub mod Firsts
 pub mod Fitting
 pub mod Slips
-pub mod Stopping

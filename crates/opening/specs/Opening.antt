@@ -131,10 +131,9 @@ slipFault n G slip = mapped Slip (firstNot (dominates n (remainder n G (by-rows 
 
 abbrev pub openFault : Grid → Grid → Numbers → Option Refusal
 openFault g a x =
-    orOther (orOther (orOther (orOther (orOther
-    (sizesFault g a)
-    (tablesFault g a))
-    (lengthsFault (heightOf g) (heightOf a) x))
-    (limitsFault x))
-    (ordersFault x))
-    (slipFault (heightOf g) (matrixOf g) (x .slip))
+    orOther (sizesFault g a)
+    (orOther (tablesFault g a)
+    (orOther (lengthsFault (heightOf g) (heightOf a) x)
+    (orOther (limitsFault x)
+    (orOther (ordersFault x)
+    (slipFault (heightOf g) (matrixOf g) (x .slip))))))

@@ -12,12 +12,9 @@ use crate::tables::sizes_fault;
 use crate::tables::tables_fault;
 use table::Table;
 
-/// The first fault: sizes of G and then of A, places of G and then of A, symmetry of G, lengths, limits, order, slip.
-///
-/// There is none exactly where everything fits; the cost is convex then.
-pub fn opening_fault<G: Table, A: Table>(g: &G, a: &A, lists: &Lists) -> Option<Refusal>
-    ensures value { λ r. ⌜ r ≡ openFault (G·Table .meant (now (g .entry))) (A·Table .meant (now (a .entry))) (numbersOf (now (lists .entry))) ⌝ }
-    ensures law { λ r. ⌜ Tells-fit (G·Table .meant (now (g .entry))) (A·Table .meant (now (a .entry))) (numbersOf (now (lists .entry))) r ⌝ }
+/// The checks in turn, each where those before it found no fault.
+fn first_fault<G: Table, A: Table>(g: &G, a: &A, lists: &Lists) -> Option<Refusal>
+    ensures { λ r. ⌜ r ≡ openFault (G·Table .meant (now (g .entry))) (A·Table .meant (now (a .entry))) (numbersOf (now (lists .entry))) ⌝ }
 {
     if let Some(fault) = sizes_fault(g, a) {
         return Some(fault);
@@ -36,4 +33,14 @@ pub fn opening_fault<G: Table, A: Table>(g: &G, a: &A, lists: &Lists) -> Option<
         return Some(fault);
     }
     slip_fault(g, n, lists.slip)
+}
+
+/// The first fault: sizes of G and then of A, places of G and then of A, symmetry of G, lengths, limits, order, slip.
+///
+/// There is none exactly where everything fits; the cost is convex then.
+pub fn opening_fault<G: Table, A: Table>(g: &G, a: &A, lists: &Lists) -> Option<Refusal>
+    ensures value { λ r. ⌜ r ≡ openFault (G·Table .meant (now (g .entry))) (A·Table .meant (now (a .entry))) (numbersOf (now (lists .entry))) ⌝ }
+    ensures law { λ r. ⌜ Tells-fit (G·Table .meant (now (g .entry))) (A·Table .meant (now (a .entry))) (numbersOf (now (lists .entry))) r ⌝ }
+{
+    first_fault(g, a, lists)
 }

@@ -108,7 +108,7 @@ impl Refusal {
 pub impl From<AllocError> for Refusal as RefusalFromAlloc {
     ghost converts = { λ _ r. r ≡ Memory };
 
-    fn from(_e: AllocError) -> Refusal {
-        Refusal::Memory
+    fn from(_e: AllocError) -> Self {
+        Self::Memory
     }
 }
