@@ -37,7 +37,7 @@ use Rattle.opening.proofs.Firsts.{or-none, or-both, of-none, of-all, mapped-no
 
 -- sizes
 
-sized-out : (g a : Grid) → sizesFault g a ≡ None → Sized g a
+pub sized-out : (g a : Grid) → sizesFault g a ≡ None → Sized g a
 sized-out g a e =
     let p = or-none (sizeFault (isSquare g) g) (sizeFault (isLined (heightOf g) a) a) e in
     let s = and-parts (ltb 0 (heightOf g) && leb (heightOf g) 16) (eqb (widthOf g) (heightOf g)) (cond-none (isSquare g) _ (p .0)) in
@@ -55,7 +55,7 @@ sized-out g a e =
           (or-cases (eqb (heightOf a) 0) (eqb (widthOf a) (heightOf g)) (u .1));
     }
 
-sized-in : (g a : Grid) → Sized g a → sizesFault g a ≡ None
+pub sized-in : (g a : Grid) → Sized g a → sizesFault g a ≡ None
 sized-in g a s =
     or-both (sizeFault (isSquare g) g) (sizeFault (isLined (heightOf g) a) a)
     (cond-true (isSquare g) None _
@@ -91,14 +91,14 @@ filled-in limit t f =
 
 -- symmetry
 
-same-out : (x y : ℤ) → same x y ≡ true → x ≡ y
+pub same-out : (x y : ℤ) → same x y ≡ true → x ≡ y
 same-out x y e =
     let p = and-parts (leZ x y) (leZ y x) e in
     let below : x ≤ℤ y = leZ-le x y (p .0) in
     let above : y ≤ℤ x = leZ-le y x (p .1) in
     omega (arith, lin)
 
-same-in : (x y : ℤ) → x ≡ y → same x y ≡ true
+pub same-in : (x y : ℤ) → x ≡ y → same x y ≡ true
 same-in x y e = and-from (leZ x y) (leZ y x) (le-leZ x y (omega (arith, lin))) (le-leZ y x (omega (arith, lin)))
 
 symmetric-out : (g : Grid) → widthOf g ≡ heightOf g → symmetryFault g ≡ None → Symmetric (heightOf g) (matrixOf g)

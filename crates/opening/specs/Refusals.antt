@@ -1,6 +1,7 @@
 -- How a refusal of a plan is told: a number, the layer that met it, and two places, 0 where there is none.
 -- A fault of a card is told as the card tells it.
 use Prim.Native.Nat.{ℕ}
+use mathlib.Core.Path.{_≡_}
 use Rattle.block.specs.declared.fault.Layer.{Layer}
 use Rattle.block.specs.declared.fault.Layer.the-variants.{Table, Plan}
 use Rattle.block.specs.declared.fault.Notice.{Notice}
@@ -57,3 +58,7 @@ noticeOf (Row row) = atPlan 23 row 0
 noticeOf NoProof = atPlan 24 0 0
 noticeOf (NoSuch index) = atPlan 30 index 0
 noticeOf (Amendment index) = atPlan 31 index 0
+
+-- Law: no other refusal is told so.
+abbrev pub Told-apart : Refusal → Notice → Type 0
+Told-apart r told = (s : Refusal) → noticeOf s ≡ told → s ≡ r

@@ -82,9 +82,6 @@ pub(crate) fn orders_fault(lists: &Lists) -> Option<Refusal>
     requires limits { ⌜ length (numbersOf (now lists) .lo) ≡ length (numbersOf (now lists) .hi) ⌝ }
     ensures { λ r. ⌜ r ≡ ordersFault (numbersOf (now (lists .entry))) ⌝ }
 {
-    order_fault(List::LowerBounds, lists.l, lists.u).or(order_fault(
-        List::LowerLimits,
-        lists.lo,
-        lists.hi,
-    ))
+    let bounds = order_fault(List::LowerBounds, lists.l, lists.u);
+    bounds.or(order_fault(List::LowerLimits, lists.lo, lists.hi))
 }

@@ -1,5 +1,6 @@
 //! The first fault of what a plan is to be opened from.
 ghost use mathlib.Core.Path.{_≡_};
+ghost use Rattle.opening.specs.Faults.{Truly};
 ghost use Rattle.opening.specs.Fits.{Tells-fit};
 ghost use Rattle.opening.specs.Opening.{numbersOf, openFault};
 use crate::listed::lengths_fault;
@@ -37,10 +38,11 @@ fn first_fault<G: Table, A: Table>(g: &G, a: &A, lists: &Lists) -> Option<Refusa
 
 /// The first fault: sizes of G and then of A, places of G and then of A, symmetry of G, lengths, limits, order, slip.
 ///
-/// There is none exactly where everything fits; the cost is convex then.
+/// There is none exactly where everything fits; the cost is convex then. What is named is at fault.
 pub fn opening_fault<G: Table, A: Table>(g: &G, a: &A, lists: &Lists) -> Option<Refusal>
     ensures value { λ r. ⌜ r ≡ openFault (G·Table .meant (now (g .entry))) (A·Table .meant (now (a .entry))) (numbersOf (now (lists .entry))) ⌝ }
     ensures law { λ r. ⌜ Tells-fit (G·Table .meant (now (g .entry))) (A·Table .meant (now (a .entry))) (numbersOf (now (lists .entry))) r ⌝ }
+    ensures fault { λ r. ⌜ Truly (G·Table .meant (now (g .entry))) (A·Table .meant (now (a .entry))) (numbersOf (now (lists .entry))) r ⌝ }
 {
     first_fault(g, a, lists)
 }

@@ -1,7 +1,7 @@
 //! Everything that a plan can refuse.
 ghost use mathlib.Core.Path.{_≡_};
 ghost use Rattle.opening.specs.declared.refusal.Refusal.the-variants.{Memory};
-ghost use Rattle.opening.specs.Refusals.{listNumber, noticeOf};
+ghost use Rattle.opening.specs.Refusals.{listNumber, noticeOf, Told-apart};
 use block::Fault;
 use block::Layer;
 use block::Notice;
@@ -81,8 +81,7 @@ fn told(number: u8, layer: Layer, first: usize, second: usize) -> Notice
 }
 
 impl Refusal {
-    /// The refusal's number, layer and places.
-    pub fn notice(&self) -> Notice
+    fn tell(&self) -> Notice
         ensures { λ r. ⌜ r ≡ noticeOf (now (self .entry)) ⌝ }
     {
         match *self {
@@ -102,6 +101,14 @@ impl Refusal {
             Refusal::NoSuch { index } => told(30, Layer::Plan, index, 0),
             Refusal::Amendment { index } => told(31, Layer::Plan, index, 0),
         }
+    }
+
+    /// The refusal's number, layer and places. No other refusal has the same.
+    pub fn notice(&self) -> Notice
+        ensures value { λ r. ⌜ r ≡ noticeOf (now (self .entry)) ⌝ }
+        ensures apart { λ r. ⌜ Told-apart (now (self .entry)) r ⌝ }
+    {
+        self.tell()
     }
 }
 
