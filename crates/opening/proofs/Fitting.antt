@@ -10,7 +10,19 @@ use lib.IntN.{ℤ, pos, natAbs}
 use lib.ListN.{length}
 use lib.Signed.{leZ, _≤ℤ_}
 use Rattle.std.proofs.shelf.Tests.{
-  and-parts, and-from, or-cases, or-left, or-right, cond-true, ltb-true, lt-ltb, leb-true, le-leb, eqb-true, eq-eqb, false≢true
+  and-parts,
+  and-from,
+  or-cases,
+  or-left,
+  or-right,
+  cond-true,
+  ltb-true,
+  lt-ltb,
+  leb-true,
+  le-leb,
+  eqb-true,
+  eq-eqb,
+  false≢true,
 }
 use Rattle.std.specs.Options.{isSome, valueOr, mapped, orOther}
 use Rattle.std.specs.declared.option.Option.{Option}
@@ -26,8 +38,28 @@ use Rattle.table.specs.Grid.{Grid, heightOf, widthOf, placeOf, matrixOf}
 use Rattle.opening.specs.Firsts.{firstOf}
 use Rattle.opening.specs.Fits.{Sized, Filled, Long, Near, Limited, Ordered, Fits, Tells-fit}
 use Rattle.opening.specs.Opening.{
-  Numbers, isSquare, isLined, sizeFault, sizesFault, isNumber, lineFault, placesFault, same, mirrorFault, symmetryFault, tablesFault, lengthFault, lengthsFault, limitFault,
-  limitsFault, orderFault, ordersFault, SlipNumbers, dominates, slipFault, openFault
+  Numbers,
+  isSquare,
+  isLined,
+  sizeFault,
+  sizesFault,
+  isNumber,
+  lineFault,
+  placesFault,
+  same,
+  mirrorFault,
+  symmetryFault,
+  tablesFault,
+  lengthFault,
+  lengthsFault,
+  limitFault,
+  limitsFault,
+  orderFault,
+  ordersFault,
+  SlipNumbers,
+  dominates,
+  slipFault,
+  openFault,
 }
 use Rattle.opening.specs.declared.refusal.List.{List as Name}
 use Rattle.opening.specs.declared.refusal.List.the-variants as name

@@ -23,8 +23,27 @@ use Rattle.opening.specs.Faults.{listOf, lengthFor, limitFor, Above, Unfilled,
 use Rattle.opening.specs.Firsts.{firstOf}
 use Rattle.opening.specs.Fits.{Sized}
 use Rattle.opening.specs.Opening.{
-  Numbers, isSquare, isLined, sizeFault, sizesFault, isNumber, lineFault, placesFault, same, mirrorFault, symmetryFault, tablesFault, lengthFault, lengthsFault, limitFault,
-  limitsFault, orderFault, ordersFault, dominates, slipFault, openFault
+  Numbers,
+  isSquare,
+  isLined,
+  sizeFault,
+  sizesFault,
+  isNumber,
+  lineFault,
+  placesFault,
+  same,
+  mirrorFault,
+  symmetryFault,
+  tablesFault,
+  lengthFault,
+  lengthsFault,
+  limitFault,
+  limitsFault,
+  orderFault,
+  ordersFault,
+  dominates,
+  slipFault,
+  openFault,
 }
 use Rattle.opening.specs.declared.refusal.List.{List as Name}
 use Rattle.opening.specs.declared.refusal.List.the-variants as name

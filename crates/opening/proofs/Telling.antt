@@ -10,7 +10,21 @@ use Rattle.opening.specs.declared.refusal.List.{List}
 use Rattle.opening.specs.declared.refusal.List.the-variants as list
 use Rattle.opening.specs.declared.refusal.Refusal.{Refusal}
 use Rattle.opening.specs.declared.refusal.Refusal.the-variants.{
-  Memory, Card, Sizes, Place, Asymmetric, Length, Limit, Slip, OfferLength, OfferLimit, Bound, Row, NoProof, NoSuch, Amendment
+  Memory,
+  Card,
+  Sizes,
+  Place,
+  Asymmetric,
+  Length,
+  Limit,
+  Slip,
+  OfferLength,
+  OfferLimit,
+  Bound,
+  Row,
+  NoProof,
+  NoSuch,
+  Amendment,
 }
 
 listAt : ℕ → List

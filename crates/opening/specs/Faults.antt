@@ -20,7 +20,21 @@ use Rattle.opening.specs.declared.refusal.List.the-variants.{Costs, LowerBound
 use Rattle.opening.specs.declared.refusal.List.the-variants as name
 use Rattle.opening.specs.declared.refusal.Refusal.{Refusal}
 use Rattle.opening.specs.declared.refusal.Refusal.the-variants.{
-  Memory, Card, Sizes, Place, Asymmetric, Length, Limit, Slip, OfferLength, OfferLimit, Bound, Row, NoProof, NoSuch, Amendment
+  Memory,
+  Card,
+  Sizes,
+  Place,
+  Asymmetric,
+  Length,
+  Limit,
+  Slip,
+  OfferLength,
+  OfferLimit,
+  Bound,
+  Row,
+  NoProof,
+  NoSuch,
+  Amendment,
 }
 
 abbrev pub listOf : Numbers → Name → List ℤ

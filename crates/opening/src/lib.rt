@@ -15,3 +15,6 @@ pub use opening::opening_fault;
 pub use refusal::List;
 pub use refusal::Refusal;
 pub use refusal::RefusalFromAlloc;
+
+#[cfg(test)]
+mod tests;

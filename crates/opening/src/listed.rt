@@ -11,7 +11,7 @@ const COST_LIMIT: u64 = 268_435_456;
 
 const BOUND_LIMIT: u64 = 32_768;
 
-const LIMIT_LIMIT: u64 = 536_870_912;
+const ROW_LIMIT: u64 = 536_870_912;
 
 const SLIP_LIMIT: u64 = 131_072;
 
@@ -56,8 +56,8 @@ pub(crate) fn limits_fault(lists: &Lists) -> Option<Refusal>
     limit_fault(List::Costs, COST_LIMIT, lists.c)
         .or(limit_fault(List::LowerBounds, BOUND_LIMIT, lists.l))
         .or(limit_fault(List::UpperBounds, BOUND_LIMIT, lists.u))
-        .or(limit_fault(List::LowerLimits, LIMIT_LIMIT, lists.lo))
-        .or(limit_fault(List::UpperLimits, LIMIT_LIMIT, lists.hi))
+        .or(limit_fault(List::LowerLimits, ROW_LIMIT, lists.lo))
+        .or(limit_fault(List::UpperLimits, ROW_LIMIT, lists.hi))
         .or(limit_fault(List::Slip, SLIP_LIMIT, lists.slip))
 }
 
