@@ -1,0 +1,5 @@
+pub mod Refusals
+pub mod Firsts
+pub mod Opening
+pub mod Fits
+pub mod Faults
