@@ -4,9 +4,11 @@ ghost use Prim.Native.Nat.{_<_, _≤_};
 ghost use lib.ListN.{length};
 ghost use Rattle.elimination.specs.Lines.{seen, pivotOf, takable};
 
-/// A pivot's size lies strictly between 2^-20 and 2^60.
+/// A pivot's size lies strictly above this, 2^-20.
 const SMALLEST: f64 = 0.00000095367431640625;
-const LARGEST: f64 = 1152921504606846976.0;
+
+/// A pivot's size lies strictly below this, 2^60.
+pub const LARGEST: f64 = 1152921504606846976.0;
 
 #[derive(Clone, Copy)]
 pub(crate) struct Pivot {

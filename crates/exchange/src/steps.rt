@@ -24,13 +24,11 @@ use crate::offers::point_of;
 use crate::offers::pressures_of;
 use crate::offers::pulls_of;
 use crate::systems::system;
+use elimination::LARGEST;
 use elimination::solve;
 use job::Job;
 use std::alloc::AllocError;
 use std::alloc::Global;
-
-/// Every pivot's size lies below this.
-const LARGEST: f64 = 1152921504606846976.0;
 
 /// What the unknowns of a solved system offer, and how the working set changes.
 fn reading(job: &Job, members: &[Member], unknowns: &[f64; 32]) -> (Offer, Choice)
