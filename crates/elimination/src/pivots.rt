@@ -24,7 +24,10 @@ pub(crate) fn pick_pivot(lines: &[[f64; 33]], width: usize, k: usize) -> Pivot
     ensures value { λ r. ⌜ (r .place, r .size) ≡ pivotOf k (seen width (now (lines .entry))) ⌝ }
     ensures within { λ r. ⌜ r .place < length (now (lines .entry)) ⌝ }
 {
-    let mut best = Pivot { place: k, size: 0.0 };
+    let mut best = Pivot {
+        place: k,
+        size: 0.0,
+    };
     for i in k..lines.len() {
         let size = lines[i][k].abs();
         if size > best.size {

@@ -51,8 +51,16 @@ pub fn run(heap: Global, job: &Job, budget: usize) -> Result<Report, AllocError>
     for k in 0..budget {
         let step = exchange.step(job);
         if let Some(end) = end_after(step) {
-            return Ok(Report { steps: k + 1, end, smallest: exchange.smallest_pivot() });
+            return Ok(Report {
+                steps: k + 1,
+                end,
+                smallest: exchange.smallest_pivot(),
+            });
         }
     }
-    Ok(Report { steps: budget, end: End::Spent, smallest: exchange.smallest_pivot() })
+    Ok(Report {
+        steps: budget,
+        end: End::Spent,
+        smallest: exchange.smallest_pivot(),
+    })
 }
