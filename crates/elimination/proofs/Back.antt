@@ -23,10 +23,12 @@ stuck-up n (suc k) ls h e =
     let e′ : None ≡ unknownsOf n (k + 1) (drop (k + 1) ls) = rw add-one e in
     stuck-up n k ls (omega arith) (ap (oneMore n k (getD ls k [])) e′ ∙ sym (unknowns-step n k ls h′))
 
-pub stuck-here : (n k : ℕ) (ls : List (List Float)) (ys : List Float) → k < length ls → unknownsOf n (k + 1) (drop (k + 1) ls) ≡ Some ys → inside (unknownOf n k (getD ls k []) ys) ≡ false → None ≡ unknownsOf n k (drop k ls)
+pub stuck-here : (n k : ℕ) (ls : List (List Float)) (ys : List Float) → k < length ls → unknownsOf n (k + 1) (drop (k + 1) ls) ≡ Some ys →
+    inside (unknownOf n k (getD ls k []) ys) ≡ false → None ≡ unknownsOf n k (drop k ls)
 stuck-here n k ls ys h e t = sym (unknowns-step n k ls h ∙ rw (e, t))
 
-pub found-here : (n k : ℕ) (ls : List (List Float)) (us : List Float) (x : Float) → k < length ls → k < length us → unknownsOf n (k + 1) (drop (k + 1) ls) ≡ Some (drop (k + 1) us) → x ≡ unknownOf n k (getD ls k []) (drop (k + 1) us) → inside x ≡ true →
+pub found-here : (n k : ℕ) (ls : List (List Float)) (us : List Float) (x : Float) → k < length ls → k < length us → unknownsOf n (k + 1) (drop (k + 1) ls) ≡ Some (drop (k + 1) us) →
+    x ≡ unknownOf n k (getD ls k []) (drop (k + 1) us) → inside x ≡ true →
     unknownsOf n k (drop k ls) ≡ Some (drop k (set us k x))
 found-here n k ls us x h l e q t =
     let t′ : inside (unknownOf n k (getD ls k []) (drop (k + 1) us)) ≡ true = ap inside (sym q) ∙ t in

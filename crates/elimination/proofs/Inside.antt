@@ -74,6 +74,6 @@ nearest-within (fin s m e) f =
     let n = m * up e in
     let q = half-within n (down e) (down-pos e) (omega arith) in
     let v : nearest (fin s m e) ≡ withSignOf s (halfAway n (down e)) =
-      nearest-value s m e ∙ cast-whole (round binary64 s (halfAway n (down e)) 1) s (halfAway n (down e)) (omega arith) (round-whole binary64 s (halfAway n (down e)) (omega arith)) in
+    nearest-value s m e ∙ cast-whole (round binary64 s (halfAway n (down e)) 1) s (halfAway n (down e)) (omega arith) (round-whole binary64 s (halfAway n (down e)) (omega arith)) in
     let a = ap natAbs v ∙ abs-sign s (halfAway n (down e)) in
     omega (arith, a, q)

@@ -7,7 +7,8 @@ use lib.Ieee.{Float, nan, binary64, div, lt}
 use mathlib.Core.Bool.{true, false, cond}
 use native.Mathlib.Numerals.{add-one}
 use lib.ListN.{length, getD, take, drop, set}
-use Rattle.std.proofs.shelf.Lists.{take-more-set, drop-set-lt, drop-more, append-assoc, append-nil, take-all, drop-all, take-rest, length-drop, length-append, length-take, length-map, getD-map, map-set, drop-map, map-append, take-map, getD-take, length-take-le, getD-at}
+use Rattle.std.proofs.shelf.Lists.{take-more-set, drop-set-lt, drop-more, append-assoc, append-nil, take-all, drop-all, take-rest, length-drop, length-append}
+use Rattle.std.proofs.shelf.Lists.{length-take, length-map, getD-map, map-set, drop-map, map-append, take-map, getD-take, length-take-le, getD-at}
 use Rattle.std.proofs.shelf.Edits.{map-over-more}
 use borrow.Rule.Slice.PartMut.{putMid}
 use Rattle.elimination.specs.Lines.{at, lose, less, cleared, seen, sizeOf, pick, clearedBelow}
@@ -82,7 +83,8 @@ pub pick-more : (k i p : ℕ) (s : Float) (ls : List (List Float)) (x : Float) �
 pick-more k i p s ls x h e = rw (e, add-one) (let d = drop-more ls i [] h in rw (d, add-one))
 
 -- a place of a line that is seen
-pub place-at : (w : ℕ) (ls : List (List Float)) (i k : ℕ) (line : List Float) (d : List Float) (x : Float) → i < length ls → k < w → line ≡ getD ls i d → x ≡ at line k → x ≡ at (getD (seen w ls) i []) k
+pub place-at : (w : ℕ) (ls : List (List Float)) (i k : ℕ) (line : List Float) (d : List Float) (x : Float) → i < length ls → k < w → line ≡ getD ls i d → x ≡ at line k →
+    x ≡ at (getD (seen w ls) i []) k
 place-at w ls i k line d x h l e q =
     q ∙ ap (λ z. at z k) e ∙ sym (getD-take w (getD ls i d) k nan l) ∙ ap (λ z. at z k) (sym (seen-at w ls i d [] h))
 
@@ -106,4 +108,4 @@ below-all w k ls us p d h ep eu =
     map-append (take w) (take (k + 1) ls) us
     ∙ ap (λ z. z ++ seen w us) (sym (take-map (take w) (k + 1) ls))
     ∙ ap (λ z. take (k + 1) (seen w ls) ++ z)
-      (eu ∙ ap (map (cleared k p)) (sym (drop-map (take w) (k + 1) ls)) ∙ ap (λ z. map (cleared k z) (drop (k + 1) (seen w ls))) q)
+    (eu ∙ ap (map (cleared k p)) (sym (drop-map (take w) (k + 1) ls)) ∙ ap (λ z. map (cleared k z) (drop (k + 1) (seen w ls))) q)

@@ -15,7 +15,8 @@ use borrow.Rule.Slice.PartMut.{postOf}
 use Rattle.elimination.specs.Lines.{seen, columnsDone, unknownsOf, withUnknowns, solved, solvedIn, padded, none}
 use Rattle.elimination.proofs.Numbers.{zero-is}
 
-pub stuck-whole : (n : ℕ) (s t : Float) (ls : List (List Float)) → n ≡ length ls → _≡_ {A = Float × Option (List (List Float))} (t, None) (columnsDone n 0 s ls) → _≡_ {A = Float × Option (List Float)} (t, None) (solved s ls)
+pub stuck-whole : (n : ℕ) (s t : Float) (ls : List (List Float)) → n ≡ length ls → _≡_ {A = Float × Option (List (List Float))} (t, None) (columnsDone n 0 s ls) →
+    _≡_ {A = Float × Option (List Float)} (t, None) (solved s ls)
 unfolding solved
 stuck-whole n s t ls l e = ap (withUnknowns n) e ∙ ap (λ m. withUnknowns m (columnsDone m 0 s ls)) l
 

@@ -8,6 +8,7 @@ mod rounding;
 mod systems;
 mod unknowns;
 
+pub use pivots::LARGEST;
 pub use rounding::nearest;
 pub use systems::Solution;
 pub use systems::solve;

@@ -4,9 +4,11 @@ ghost use Prim.Native.Nat.{_<_, _≤_};
 ghost use lib.ListN.{length};
 ghost use Rattle.elimination.specs.Lines.{seen, pivotOf, takable};
 
-/// A pivot's size lies strictly between 2^-20 and 2^60.
+/// A pivot's size lies strictly above this, 2^-20.
 const SMALLEST: f64 = 0.00000095367431640625;
-const LARGEST: f64 = 1152921504606846976.0;
+
+/// A pivot's size lies strictly below this, 2^60.
+pub const LARGEST: f64 = 1152921504606846976.0;
 
 #[derive(Clone, Copy)]
 pub(crate) struct Pivot {
@@ -22,7 +24,10 @@ pub(crate) fn pick_pivot(lines: &[[f64; 33]], width: usize, k: usize) -> Pivot
     ensures value { λ r. ⌜ (r .place, r .size) ≡ pivotOf k (seen width (now (lines .entry))) ⌝ }
     ensures within { λ r. ⌜ r .place < length (now (lines .entry)) ⌝ }
 {
-    let mut best = Pivot { place: k, size: 0.0 };
+    let mut best = Pivot {
+        place: k,
+        size: 0.0,
+    };
     for i in k..lines.len() {
         let size = lines[i][k].abs();
         if size > best.size {

@@ -36,12 +36,21 @@ pub fn solve(mut lines: [[f64; 33]; 32], n: usize, mut smallest: f64) -> Solutio
     ensures law { λ _. ⌜ Solves n (solvedIn n smallest lines .1) ⌝ }
 {
     if n > 32 {
-        return Solution { unknowns: None, smallest };
+        return Solution {
+            unknowns: None,
+            smallest,
+        };
     }
     let mut unknowns = [0.0; 32];
     if solve_lines(&mut lines[0..n], &mut smallest, &mut unknowns[0..n]) {
-        Solution { unknowns: Some(unknowns), smallest }
+        Solution {
+            unknowns: Some(unknowns),
+            smallest,
+        }
     } else {
-        Solution { unknowns: None, smallest }
+        Solution {
+            unknowns: None,
+            smallest,
+        }
     }
 }

@@ -54,9 +54,9 @@ multipliers-inside P ms ys =
     let t = take-filled-up 32 m (multipliers P ms ys) l in
     rw t
     (all-from (λ k. within 16777216 (places (multipliers P ms ys) k)) (length (multipliers P ms ys))
-      (λ k h.
-        let e : places (multipliers P ms ys) k ≡ f k = getD-map-counting f 0 m k k (pos 0) (omega arith) (omega arith) in
-        le-leb (natAbs (places (multipliers P ms ys) k)) 16777216 (omega (arith, ap natAbs e, pressure-small ms ys (Row k)))))
+    (λ k h.
+    let e : places (multipliers P ms ys) k ≡ f k = getD-map-counting f 0 m k k (pos 0) (omega arith) (omega arith) in
+    le-leb (natAbs (places (multipliers P ms ys) k)) 16777216 (omega (arith, ap natAbs e, pressure-small ms ys (Row k)))))
 
 pub point-inside : (j : Job) (us : List Float) → j .ropes ≤ length us → In-bounds j (take (j .ropes) (filled 16 (insideBounds (problemOf j) (pullsOf (problemOf j) us))))
 point-inside j us h =
@@ -71,7 +71,7 @@ point-inside j us h =
     let B : List ℤ → Type 0 = In-bounds j in
     subst B (sym t)
     (held-in-bounds j z y n lz (ly ∙ sym lz) (le-refl n)
-      (λ k l. getD-map-counting g 0 n k k (pos 0) l (omega arith), λ k l. getD-past y k (pos 0) (omega arith) ∙ sym (getD-past z k (pos 0) (omega arith))))
+    (λ k l. getD-map-counting g 0 n k k (pos 0) l (omega arith), λ k l. getD-past y k (pos 0) (omega arith) ∙ sym (getD-past z k (pos 0) (omega arith))))
 
 pub offered-inside : (j : Job) (ms : List Member) (us : List Float) (ch : Choice) → j .ropes ≤ length us → Offers-inside j (Found (offered (problemOf j) ms us) ch)
 unfolding offered

@@ -49,10 +49,10 @@ module _ (n m : ℕ) (X : List Float) (h : n + m ≤ length X) where
       let l = pulls-long in
       and-from (eqb (length z) n) (allWithin 1073741824 z) (eq-eqb _ _ l)
       (all-from (λ k. within 1073741824 (places z k)) (length z)
-        (λ k t.
-          let lt : k < n = omega arith in
-          let e : places z k ≡ nearest (at X k) = getD-map nearest (take n X) k nan (pos 0) (omega (arith, length-take-le n X (omega arith))) ∙ ap nearest (getD-take n X k nan lt) in
-          le-leb (natAbs (places z k)) 1073741824 (omega (arith, ap natAbs e, nearest-within (at X k) (q k (omega arith))))))
+      (λ k t.
+      let lt : k < n = omega arith in
+      let e : places z k ≡ nearest (at X k) = getD-map nearest (take n X) k nan (pos 0) (omega (arith, length-take-le n X (omega arith))) ∙ ap nearest (getD-take n X k nan lt) in
+      le-leb (natAbs (places z k)) 1073741824 (omega (arith, ap natAbs e, nearest-within (at X k) (q k (omega arith))))))
 
 -- the offer, of a point and multipliers that are filled up
 pub offer-is : (P : Problem) (ms : List Member) (us : List Float) (xs ys point mults pulls : List ℤ) → length xs ≡ P .ropes → xs ≡ pullsOf P us → ys ≡ pressuresOf P us → pulls ≡ filled 16 xs →

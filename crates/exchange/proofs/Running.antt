@@ -72,9 +72,11 @@ one-more : (b : ℕ) (o : Offer) (r : Run) → Lawful-run b r → Lawful-run (su
 one-more b o r h =
     record {
       within = let w = h .within in omega arith;
-      offering = (λ e. let q = h .offering .0 e in omega arith, λ e. let q = h .offering .1 e in omega arith) }
+      offering = (λ e. let q = h .offering .0 e in omega arith, λ e. let q = h .offering .1 e in omega arith);
+    }
 
-lawful-after : (b : ℕ) (st : Step) (t : Float) (ms : List Member) (next : List Member → Float → Run) → ((vs : List Member) (s : Float) → Lawful-run b (next vs s)) → Lawful-run (suc b) (afterStep st t ms next)
+lawful-after : (b : ℕ) (st : Step) (t : Float) (ms : List Member) (next : List Member → Float → Run) → ((vs : List Member) (s : Float) → Lawful-run b (next vs s)) →
+    Lawful-run (suc b) (afterStep st t ms next)
 lawful-after b Refused t ms next h = record { within = omega arith; offering = (λ e. refl, λ e. absurd (e refl)) }
 lawful-after b Stuck t ms next h = record { within = omega arith; offering = (λ e. refl, λ e. absurd (e refl)) }
 lawful-after b (Found o (Enter w)) t ms next h = one-more b o _ (h (changed ms (Enter w)) t)

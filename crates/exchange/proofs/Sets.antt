@@ -79,7 +79,7 @@ apart-removed ms i t h k d l =
     ⊎-elim
     (λ a. let g = getD-removed-below ms i d k a t in let p = take-removed-below ms i k (omega arith) t in rw (p, g) (h k d (omega arith)))
     (λ b.
-      let g = getD-removed-above ms i d k b t in
-      let e : holds (take (suc k) ms) (getD ms (k + 1) d .limit) ≡ false = ap (λ (n : ℕ). holds (take n ms) (getD ms (k + 1) d .limit)) (sym (add-one k)) ∙ h (k + 1) d (omega arith) in
-      rw g (fewer ms i k (getD ms (k + 1) d .limit) b (omega arith) e))
+    let g = getD-removed-above ms i d k b t in
+    let e : holds (take (suc k) ms) (getD ms (k + 1) d .limit) ≡ false = ap (λ (n : ℕ). holds (take n ms) (getD ms (k + 1) d .limit)) (sym (add-one k)) ∙ h (k + 1) d (omega arith) in
+    rw g (fewer ms i k (getD ms (k + 1) d .limit) b (omega arith) e))
     (cases-lt k i)

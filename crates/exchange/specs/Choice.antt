@@ -37,8 +37,8 @@ mostWrong ms ys = upto (moreWrong ms ys) unwronged (length ms)
 unfoldable pub chosen : Problem → List Member → List ℤ → List ℤ → Choice
 chosen P ms z ys =
     cond (ltZ (pos 0) (worst P ms z .ticks))
-      (cond (ltb (length ms) (P .ropes)) (Enter (worst P ms z .member)) Full)
-      (cond (ltb 0 (mostWrong ms ys .size)) (Leave (mostWrong ms ys .place)) Done)
+    (cond (ltb (length ms) (P .ropes)) (Enter (worst P ms z .member)) Full)
+    (cond (ltb 0 (mostWrong ms ys .size)) (Leave (mostWrong ms ys .place)) Done)
 
 -- Law: who enters is broken by no fewer ticks than any other limit that is not held; where a member leaves, or none does, no such limit is broken.
 abbrev pub Chosen-well : Problem → List Member → List ℤ → Choice → Type 0

@@ -84,7 +84,10 @@ fn breach(job: &Job, pulls: &[i64], limit: Limit) -> Breach
     let lower = low(job, limit);
     let s = value_at(job, pulls, limit);
     let side = if s < lower { Side::Lower } else { Side::Upper };
-    Breach { ticks: excess(lower, high(job, limit), s), member: Member { limit, side } }
+    Breach {
+        ticks: excess(lower, high(job, limit), s),
+        member: Member { limit, side },
+    }
 }
 
 fn worse(job: &Job, members: &[Member], pulls: &[i64], best: Breach, limit: Limit) -> Breach
@@ -107,7 +110,13 @@ fn worst_row(job: &Job, members: &[Member], pulls: &[i64]) -> Breach
     requires { ⌜ aPoint (now job .ropes) 1073741824 (now pulls) ≡ true ⌝ }
     ensures { λ r. ⌜ r ≡ worstRow (problemOf (now (job .entry))) (now (members .entry)) (now (pulls .entry)) ⌝ }
 {
-    let mut best = Breach { ticks: 0, member: Member { limit: Limit::Bound(0), side: Side::Lower } };
+    let mut best = Breach {
+        ticks: 0,
+        member: Member {
+            limit: Limit::Bound(0),
+            side: Side::Lower,
+        },
+    };
     for i in 0..job.rows {
         best = worse(job, members, pulls, best, Limit::Row(i));
     }

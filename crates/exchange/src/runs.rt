@@ -9,12 +9,10 @@ use crate::members::Choice;
 use crate::members::End;
 use crate::members::Report;
 use crate::members::Step;
+use elimination::LARGEST;
 use job::Job;
 use std::alloc::AllocError;
 use std::alloc::Global;
-
-/// Every pivot's size lies below this.
-const LARGEST: f64 = 1152921504606846976.0;
 
 /// The end that a step means, if it is one.
 pub fn end_after(step: Step) -> Option<End>
@@ -53,8 +51,16 @@ pub fn run(heap: Global, job: &Job, budget: usize) -> Result<Report, AllocError>
     for k in 0..budget {
         let step = exchange.step(job);
         if let Some(end) = end_after(step) {
-            return Ok(Report { steps: k + 1, end, smallest: exchange.smallest_pivot() });
+            return Ok(Report {
+                steps: k + 1,
+                end,
+                smallest: exchange.smallest_pivot(),
+            });
         }
     }
-    Ok(Report { steps: budget, end: End::Spent, smallest: exchange.smallest_pivot() })
+    Ok(Report {
+        steps: budget,
+        end: End::Spent,
+        smallest: exchange.smallest_pivot(),
+    })
 }

@@ -24,13 +24,11 @@ use crate::offers::point_of;
 use crate::offers::pressures_of;
 use crate::offers::pulls_of;
 use crate::systems::system;
+use elimination::LARGEST;
 use elimination::solve;
 use job::Job;
 use std::alloc::AllocError;
 use std::alloc::Global;
-
-/// Every pivot's size lies below this.
-const LARGEST: f64 = 1152921504606846976.0;
 
 /// What the unknowns of a solved system offer, and how the working set changes.
 fn reading(job: &Job, members: &[Member], unknowns: &[f64; 32]) -> (Offer, Choice)
@@ -41,7 +39,12 @@ fn reading(job: &Job, members: &[Member], unknowns: &[f64; 32]) -> (Offer, Choic
 {
     let pulls = pulls_of(unknowns, job.ropes);
     let pressures = pressures_of(unknowns, job.ropes, members.len());
-    let choice = choose(job, members, &pulls[0..job.ropes], &pressures[0..members.len()]);
+    let choice = choose(
+        job,
+        members,
+        &pulls[0..job.ropes],
+        &pressures[0..members.len()],
+    );
     let point = point_of(job, pulls);
     let multipliers = multipliers_of(job, members, &pressures[0..members.len()]);
     (Offer { point, multipliers }, choice)
@@ -53,7 +56,12 @@ impl Exchange {
         ensures { λ r. ⌜ made r (λ e. (e .ropes ≡ now (job .entry) .ropes) × (e .rows ≡ now (job .entry) .rows) × (vec-items (e .members) ≡ []) × (e .smallest ≡ largest)) ⌝ }
     {
         let members = Vec::with_capacity(heap, job.ropes)?;
-        Ok(Exchange { ropes: job.ropes, rows: job.rows, members, smallest: LARGEST })
+        Ok(Exchange {
+            ropes: job.ropes,
+            rows: job.rows,
+            members,
+            smallest: LARGEST,
+        })
     }
 
     fn is_for(&self, job: &Job) -> bool

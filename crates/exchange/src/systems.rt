@@ -53,13 +53,7 @@ fn weight(job: &Job, limit: Limit, j: usize) -> i64
 {
     match limit {
         Limit::Row(i) => row_weight(job, i, j),
-        Limit::Bound(k) => {
-            if k == j {
-                1
-            } else {
-                0
-            }
-        }
+        Limit::Bound(k) => { if k == j { 1 } else { 0 } }
     }
 }
 

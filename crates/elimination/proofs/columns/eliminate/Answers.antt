@@ -19,9 +19,10 @@ pub loop-k-again : need.loop-k-again
 loop-k-again c =
     let n = length (c .args .lines .now) in
     let u : c .if-size-smallest .smallest ≡ lesser (c .loop-k .smallest) (c .in-Some .size) =
-      elim (c .if-size-smallest .came) [
-        then-size-smallest w ↦ w .smallest-is ∙ rw (w .if-size-smallest .taken)
-      | else-size-smallest w ↦ w .smallest-is ∙ rw (w .if-size-smallest .left) ] in
+    elim (c .if-size-smallest .came) [
+      | then-size-smallest w ↦ w .smallest-is ∙ rw (w .if-size-smallest .taken)
+      | else-size-smallest w ↦ w .smallest-is ∙ rw (w .if-size-smallest .left)
+    ] in
     columns-some n (c .loop-k .k) (c .loop-k .smallest) (c .in-Some .size) (c .if-size-smallest .smallest) (seen (n + 1) (c .loop-k .lines)) (seen (n + 1) (c .eliminate-column .last .lines))
     (c .loop-k-test .taken) (c .in-Some .ensures tt) u
     ∙ c .loop-k .inv

@@ -21,12 +21,17 @@ loop-i-again c =
     let x = at (getD ls i []) k in
     let e = place-at (c .args .width) ls i k (getD ls i []) [] x (c .loop-i-test .taken) (c .pre .column) refl refl in
     elim (c .if-size-best .came) [
-      then-size-best w ↦ rw (w .best-is)
-        (pick-then k i (c .loop-i .best .place) (c .loop-i .best .size) x (c .abs-size .result) (seen (c .args .width) ls) (omega arith) e (c .abs-size .ensures .value) (w .if-size-best .taken) ∙ c .loop-i .inv .0,
-          c .loop-i-test .taken)
-    | else-size-best w ↦ rw (w .best-is)
-        (pick-else k i (c .loop-i .best .place) (c .loop-i .best .size) x (c .abs-size .result) (seen (c .args .width) ls) (omega arith) e (c .abs-size .ensures .value) (w .if-size-best .left) ∙ c .loop-i .inv .0,
-          c .loop-i .inv .1) ]
+      | then-size-best w ↦ rw (w .best-is) (
+        pick-then k i (c .loop-i .best .place) (c .loop-i .best .size) x (c .abs-size .result) (seen (c .args .width) ls) (omega arith) e (c .abs-size .ensures .value)
+            (w .if-size-best .taken) ∙ c .loop-i .inv .0,
+        c .loop-i-test .taken,
+      )
+      | else-size-best w ↦ rw (w .best-is) (
+        pick-else k i (c .loop-i .best .place) (c .loop-i .best .size) x (c .abs-size .result) (seen (c .args .width) ls) (omega arith) e (c .abs-size .ensures .value)
+            (w .if-size-best .left) ∙ c .loop-i .inv .0,
+        c .loop-i .inv .1,
+      )
+    ]
 
 pub returns : need.returns
 returns c =

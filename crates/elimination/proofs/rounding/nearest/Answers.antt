@@ -11,4 +11,5 @@ returns c =
     let e : c .saturating-f64-to-i64 .result ≡ nearest (c .args .x) = cc in
     record {
       value = search (needs, e);
-      law = λ m. let f : c .saturating-f64-to-i64 .result ≡ nearestWhole (c .args .x) = e ∙ nearest-law (c .args .x) m in search (needs, f) }
+      law = λ m. let f : c .saturating-f64-to-i64 .result ≡ nearestWhole (c .args .x) = e ∙ nearest-law (c .args .x) m in search (needs, f);
+    }

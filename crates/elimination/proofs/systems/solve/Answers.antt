@@ -23,7 +23,8 @@ returns-then-solve-lines c =
     record {
       smallest = ap (λ (p : Float × Option (List Float)). p .0) e;
       unknowns = ap Some (padded-is (c .args .n) us l) ∙ ap (λ (p : Float × Option (List Float)). mapped padded (p .1)) e;
-      law = subst P e (l, q) }
+      law = subst P e (l, q);
+    }
 
 pub returns-else-solve-lines : need.returns-else-solve-lines
 returns-else-solve-lines c =
@@ -32,4 +33,5 @@ returns-else-solve-lines c =
     record {
       smallest = ap (λ (p : Float × Option (List Float)). p .0) e;
       unknowns = ap (λ (p : Float × Option (List Float)). mapped padded (p .1)) e;
-      law = subst P e tt }
+      law = subst P e tt;
+    }

@@ -41,9 +41,10 @@ loop-k-again c =
     let e : c .loop-k .k ≡ j + 1 = omega arith in
     let P : ℕ → Type 0 = λ k. unknownsOf (length vs) k (drop k ls) ≡ Some (drop k us) in
     let i = subst P e (c .loop-k .inv .0) in
-    let x = unknown-is (length vs) j (take (w - 0) (getD vs j [])) ls us (c .unknown-x .result) (line-is w j vs t) (line-long w j vs t (omega (arith, c .told-lines j t))) (c .unknown-x .ensures) in
-    (found-here (length vs) j ls us (c .unknown-x .result) (omega arith) (omega (arith, c .loop-k .inv .1)) i x (sym (c .if-not-is-inside .ensures tt)),
-      length-set us j (c .unknown-x .result) ∙ c .loop-k .inv .1)
+    let x = unknown-is (length vs) j (take (w - 0) (getD vs j [])) ls us (c .unknown-x .result) (line-is w j vs t) (line-long w j vs t (omega (arith, c .told-lines j t))) (c .unknown-x .ensures) in (
+      found-here (length vs) j ls us (c .unknown-x .result) (omega arith) (omega (arith, c .loop-k .inv .1)) i x (sym (c .if-not-is-inside .ensures tt)),
+      length-set us j (c .unknown-x .result) ∙ c .loop-k .inv .1,
+    )
 
 pub loop-k-holds : need.loop-k-holds
 loop-k-holds c =

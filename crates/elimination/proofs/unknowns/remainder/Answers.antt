@@ -21,7 +21,8 @@ rest-nil b (x ∷ xs) = refl
 ended : (s t : Zip (Iter Float) (Iter Float)) (b : Float) → zips fronts fronts s None t → rest b (iter-rest (zip-first s)) (iter-rest (zip-second s)) ≡ b
 ended s t b h = go (h .0) (h .1) (h .2)
   where
-    go : (o : Option (RefT Float)) → fronts (zip-first s) o (zip-first t) → Cases o (zip-second t ≡ zip-second s) (λ _. fronts (zip-second s) None (zip-second t)) → rest b (iter-rest (zip-first s)) (iter-rest (zip-second s)) ≡ b
+    go : (o : Option (RefT Float)) → fronts (zip-first s) o (zip-first t) → Cases o (zip-second t ≡ zip-second s) (λ _. fronts (zip-second s) None (zip-second t)) →
+        rest b (iter-rest (zip-first s)) (iter-rest (zip-second s)) ≡ b
     go None p q = let e = nil-from-length (iter-rest (zip-first s)) (p .0) in rw e (rest-nil b (iter-rest (zip-second s)))
     go (Some x) p q = let e = nil-from-length (iter-rest (zip-second s)) (q .0) in rw e
 
@@ -35,7 +36,8 @@ loop-a-holds c =
 pub loop-a-again : need.loop-a-again
 loop-a-again c =
     let h = c .in-Some .ensures tt .steps in
-    sym (ap (λ z. rest (c .loop-a .left) z (iter-rest (zip-second (c .loop-a .a-iterator)))) (h .0) ∙ ap (λ z. rest (c .loop-a .left) (c .in-Some .a .now ∷ iter-rest (zip-first (c .next .last .self))) z) (h .1)) ∙ c .loop-a .inv
+    sym (ap (λ z. rest (c .loop-a .left) z (iter-rest (zip-second (c .loop-a .a-iterator)))) (h .0) ∙ ap
+        (λ z. rest (c .loop-a .left) (c .in-Some .a .now ∷ iter-rest (zip-first (c .next .last .self))) z) (h .1)) ∙ c .loop-a .inv
 
 pub returns : need.returns
 returns c = sym (ended (c .loop-a .a-iterator) (c .next .last .self) (c .loop-a .left) (c .in-None .ensures tt .steps)) ∙ c .loop-a .inv

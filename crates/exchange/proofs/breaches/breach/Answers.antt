@@ -28,7 +28,8 @@ returns c =
     let s : back (c .value-at-s .result) ≡ valueAt P z v = toZ-ofZ w64 _ fs ∙ c .value-at-s .ensures .value in
     let t : back (c .excess .result) ≡ excess (low P v) (high P v) (valueAt P z v) = toZ-ofZ w64 _ fe ∙ c .excess .ensures ∙ rw (l, h, s) in
     let d : c .if-s-lower .side ≡ sideOf (low P v) (valueAt P z v) =
-      elim (c .if-s-lower .came) [
-        then-s-lower w ↦ let q : ltZ (valueAt P z v) (low P v) ≡ true = rw (l, s) at (w .if-s-lower .taken) in w .side-is ∙ rw q
-      | else-s-lower w ↦ let q : ltZ (valueAt P z v) (low P v) ≡ false = rw (l, s) at (w .if-s-lower .left) in w .side-is ∙ rw q ] in
+    elim (c .if-s-lower .came) [
+      | then-s-lower w ↦ let q : ltZ (valueAt P z v) (low P v) ≡ true = rw (l, s) at (w .if-s-lower .taken) in w .side-is ∙ rw q
+      | else-s-lower w ↦ let q : ltZ (valueAt P z v) (low P v) ≡ false = rw (l, s) at (w .if-s-lower .left) in w .side-is ∙ rw q
+    ] in
     breach-is P z v (back (c .excess .result)) (c .if-s-lower .side) t d

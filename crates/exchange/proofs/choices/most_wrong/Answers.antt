@@ -23,10 +23,11 @@ loop-k-again c =
     let k = c .loop-k .k in
     let f : SFits w64 (places ys k) = search needs in
     let q : c .wrongness-size .result ≡ wrongness (memberAt ms k .side) (places ys k) =
-      c .wrongness-size .ensures ∙ ap (λ z. wrongness (z .side) (back (places ys k))) (getD-default ms k _ _ (c .loop-k-test .taken)) ∙ ap (wrongness (memberAt ms k .side)) (toZ-ofZ w64 _ f) in
+    c .wrongness-size .ensures ∙ ap (λ z. wrongness (z .side) (back (places ys k))) (getD-default ms k _ _ (c .loop-k-test .taken)) ∙ ap (wrongness (memberAt ms k .side)) (toZ-ofZ w64 _ f) in
     elim (c .if-size-most .came) [
-      then-size-most w ↦ w .most-is ∙ wrong-taken ms ys (c .loop-k .most) k (c .wrongness-size .result) (c .loop-k .inv) q (w .if-size-most .taken)
-    | else-size-most w ↦ w .most-is ∙ wrong-left ms ys (c .loop-k .most) k (c .wrongness-size .result) (c .loop-k .inv) q (w .if-size-most .left) ]
+      | then-size-most w ↦ w .most-is ∙ wrong-taken ms ys (c .loop-k .most) k (c .wrongness-size .result) (c .loop-k .inv) q (w .if-size-most .taken)
+      | else-size-most w ↦ w .most-is ∙ wrong-left ms ys (c .loop-k .most) k (c .wrongness-size .result) (c .loop-k .inv) q (w .if-size-most .left)
+    ]
 
 pub returns : need.returns
 unfolding mostWrong

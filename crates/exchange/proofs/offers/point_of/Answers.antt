@@ -16,7 +16,8 @@ use Rattle.job.specs.declared.numbers.Job.{Job}
 use Rattle.exchange.specs.Offers.{insideBounds}
 use Rattle.exchange.proofs.offers.point_of.Needs as need
 
-held-inside : (j : Job) (z ys : List ℤ) → j .ropes ≤ length z → ys ≡ clamped j (take (j .ropes - 0) z) → ys ++ postOf 0 (j .ropes - 0) z ≡ insideBounds (problemOf j) (take (j .ropes) z) ++ drop (j .ropes) z
+held-inside : (j : Job) (z ys : List ℤ) → j .ropes ≤ length z → ys ≡ clamped j (take (j .ropes - 0) z) →
+    ys ++ postOf 0 (j .ropes - 0) z ≡ insideBounds (problemOf j) (take (j .ropes) z) ++ drop (j .ropes) z
 held-inside j z ys h e =
     let n = j .ropes in
     let P : ℕ → Type 0 = λ k. ys ≡ clamped j (take k z) in

@@ -26,7 +26,8 @@ choose-choice-requires c κs =
     let k = pressures-long n m X h in
     record {
       point = subst P (sym (front 16 n (pulled (take n X)) (c .pulls-of-pulls .result) l (c .pulls-of-pulls .ensures))) (pulls-point n m X h (c .pre .inside));
-      pressures = ap length (front 16 m (pressed (take m (drop n X))) (c .pressures-of-pressures .result) k (c .pressures-of-pressures .ensures)) ∙ k }
+      pressures = ap length (front 16 m (pressed (take m (drop n X))) (c .pressures-of-pressures .result) k (c .pressures-of-pressures .ensures)) ∙ k;
+    }
 
 pub multipliers-of-multipliers-requires : need.multipliers-of-multipliers-requires
 multipliers-of-multipliers-requires c κs =
@@ -54,7 +55,9 @@ returns c =
     let y = front 16 m (pressed (take m (drop n X))) (c .pressures-of-pressures .result) k (c .pressures-of-pressures .ensures) in
     record {
       offer =
-        offer-is Q ms us (pulled (take n X)) (pressed (take m (drop n X))) (c .point-of-point .result) (c .multipliers-of-multipliers .result) (c .pulls-of-pulls .result)
-        l (pulls-same n m X h) (pressures-same n m X h) (c .pulls-of-pulls .ensures) (c .point-of-point .ensures) (length-map-counting _ 0 n)
-        (c .multipliers-of-multipliers .ensures ∙ ap (λ z. filled 32 (multipliers Q ms z)) y);
-      choice = c .choose-choice .ensures ∙ ap (λ z. chosen Q ms z (take (m - 0) (c .pressures-of-pressures .result))) (x ∙ pulls-same n m X h) ∙ ap (λ z. chosen Q ms (pullsOf Q us) z) (y ∙ pressures-same n m X h) }
+          offer-is Q ms us (pulled (take n X)) (pressed (take m (drop n X))) (c .point-of-point .result) (c .multipliers-of-multipliers .result) (c .pulls-of-pulls .result)
+          l (pulls-same n m X h) (pressures-same n m X h) (c .pulls-of-pulls .ensures) (c .point-of-point .ensures) (length-map-counting _ 0 n)
+          (c .multipliers-of-multipliers .ensures ∙ ap (λ z. filled 32 (multipliers Q ms z)) y);
+      choice = c .choose-choice .ensures ∙ ap (λ z. chosen Q ms z (take (m - 0) (c .pressures-of-pressures .result))) (x ∙ pulls-same n m X h) ∙ ap (λ z. chosen Q ms (pullsOf Q us) z)
+          (y ∙ pressures-same n m X h);
+    }

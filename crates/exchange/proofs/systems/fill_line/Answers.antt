@@ -29,4 +29,5 @@ returns c =
     let f : ℕ → Float = λ k. ofInt binary64 (entry (problemOf j) (c .args .members .now) (c .args .r) k) in
     record {
       value = take-filled f (c .loop-k .line) (c .args .width) nan (omega (arith, c .loop-k .inv .1)) (λ k t. c .loop-k .inv .0 k (omega arith));
-      len = c .loop-k .inv .1 }
+      len = c .loop-k .inv .1;
+    }

@@ -23,9 +23,16 @@ ghost-self c =
     let t : isOk (c .push .result) ≡ true = c .push .ensures .succeeds (omega (arith, f .0, e .room, e .members .ok .0)) in
     let i : vec-items (c .push .last .self) ≡ ms ++ w ∷ [] = c .push .ensures .items ∙ rw t in
     let F : List Member → Type 0 = Fitting (e .ropes) (e .rows) in
-    let A : List Member → Type 0 = Apart in
-    (e .small, (omega (arith, f .0, c .push .ensures .high-bound, e .members .ok .0), (omega (arith, c .push .ensures .capacity, e .room),
-      (subst F (sym i) (fitting-push (e .ropes) (e .rows) ms w (e .fitting) (f .1)), (subst A (sym i) (apart-push ms w (e .apart) (f .2)), tt)))))
+    let A : List Member → Type 0 = Apart in (
+      e .small,
+      (
+        omega (arith, f .0, c .push .ensures .high-bound, e .members .ok .0),
+        (
+          omega (arith, c .push .ensures .capacity, e .room),
+          (subst F (sym i) (fitting-push (e .ropes) (e .rows) ms w (e .fitting) (f .1)), (subst A (sym i) (apart-push ms w (e .apart) (f .2)), tt)),
+        ),
+      ),
+    )
 
 pub ghost-self-in-Leave : need.ghost-self-in-Leave
 ghost-self-in-Leave c =
@@ -36,6 +43,13 @@ ghost-self-in-Leave c =
     let f = subst P (c .in-Leave .is) (c .pre) in
     let i : vec-items (c .remove .last .self) ≡ removed ms k = c .remove .ensures .items in
     let F : List Member → Type 0 = Fitting (e .ropes) (e .rows) in
-    let A : List Member → Type 0 = Apart in
-    (e .small, (omega (arith, c .remove .ensures .len, e .few), (omega (arith, c .remove .ensures .capacity, e .room),
-      (subst F (sym i) (fitting-removed (e .ropes) (e .rows) ms k f (e .fitting)), (subst A (sym i) (apart-removed ms k f (e .apart)), tt)))))
+    let A : List Member → Type 0 = Apart in (
+      e .small,
+      (
+        omega (arith, c .remove .ensures .len, e .few),
+        (
+          omega (arith, c .remove .ensures .capacity, e .room),
+          (subst F (sym i) (fitting-removed (e .ropes) (e .rows) ms k f (e .fitting)), (subst A (sym i) (apart-removed ms k f (e .apart)), tt)),
+        ),
+      ),
+    )

@@ -35,7 +35,8 @@ returns-then-not-is-for c =
       ropes = refl;
       rows = refl;
       law = tt;
-      choice = λ us. chosen-well P (vec-items (e .members)) (pullsOf P us) (pressuresOf P us) }
+      choice = λ us. chosen-well P (vec-items (e .members)) (pullsOf P us) (pressuresOf P us);
+    }
 
 pub returns-in-None : need.returns-in-None
 returns-in-None c =
@@ -55,7 +56,8 @@ returns-in-None c =
       ropes = refl;
       rows = refl;
       law = tt;
-      choice = λ us. chosen-well P ms (pullsOf P us) (pressuresOf P us) }
+      choice = λ us. chosen-well P ms (pullsOf P us) (pressuresOf P us);
+    }
 
 pub reading-choice-requires : need.reading-choice-requires
 reading-choice-requires c κs =
@@ -76,7 +78,8 @@ reading-choice-requires c κs =
     let d = c .deref-in-Some .ensures .value in
     record {
       few = omega (arith, ap length d, e .few, e .small, e .members .ok .0);
-      inside = λ i l. array-inside (j .ropes + c .len .result) us X (u .1 .1) w i (omega (arith, ap length d, k)) }
+      inside = λ i l. array-inside (j .ropes + c .len .result) us X (u .1 .1) w i (omega (arith, ap length d, k));
+    }
 
 pub follow-requires : need.follow-requires
 follow-requires c κs =
@@ -116,11 +119,12 @@ returns-in-Some c =
     let L : Offer → Type 0 = λ y. Offers-inside j (Found y (c .reading-choice .result .1)) in
     record {
       value =
-        step-found P (e .ropes) (e .rows) ms (e .smallest) us (c .reading-choice .result .0) (c .reading-choice .result .1) f (u .1 .0) o
-        (c .reading-choice .ensures .choice ∙ ap (λ (x : List Member). choiceAt P x (take (j .ropes + length x) X)) d ∙ ap (choiceAt P ms) r);
+          step-found P (e .ropes) (e .rows) ms (e .smallest) us (c .reading-choice .result .0) (c .reading-choice .result .1) f (u .1 .0) o
+          (c .reading-choice .ensures .choice ∙ ap (λ (x : List Member). choiceAt P x (take (j .ropes + length x) X)) d ∙ ap (choiceAt P ms) r);
       members = c .follow .ensures .members;
       smallest = c .follow .ensures .smallest ∙ smallest-noted P (e .ropes) (e .rows) ms (e .smallest) _ f (c .solve-solution .ensures .smallest ∙ ap (λ (p : Pair). p .0) q);
       ropes = c .follow .ensures .ropes;
       rows = c .follow .ensures .rows;
       law = subst L (sym o) (offered-inside j ms us (c .reading-choice .result .1) (omega (arith, w .0)));
-      choice = λ us. chosen-well P ms (pullsOf P us) (pressuresOf P us) }
+      choice = λ us. chosen-well P ms (pullsOf P us) (pressuresOf P us);
+    }
