@@ -1,8 +1,8 @@
 -- What is read of terms and points: the numbers are small, and a read gives the number at its place.
 use Prim.Native.Nat.{ℕ, _≤_, _<_}
-use mathlib.Core.Bool.{Bool, true}
+use mathlib.Core.Bool.{Bool, true, false}
 use mathlib.Core.List.{List}
-use mathlib.Core.Path.{_≡_, ap, sym, _∙_}
+use mathlib.Core.Path.{_≡_, refl, ap, sym, _∙_}
 use native.Mathlib.Omega.{arith}
 use lib.Dec.{eqb, lit<}
 use lib.IntN.{ℤ, natAbs}
@@ -68,3 +68,15 @@ module _ (t : Terms) where
         few = omega (arith, many-long (vec-len (t .c)) limit z p, t .some .1);
         near = λ k. omega (arith, many-small (vec-len (t .c)) limit z p k);
       }
+
+-- of a list that was tested against a length, as the code has it
+pub many-at : (n m limit : ℕ) (z : List ℤ) → n ≡ m → manyWithin n limit z ≡ true → manyWithin m limit z ≡ true
+many-at n m limit z e p = ap (λ (k : ℕ). manyWithin k limit z) (sym e) ∙ p
+
+pub given-test : {X : Type 0} (b : Bool) (v w : X) → Some w ≡ answer b v → b ≡ true
+given-test true v w e = refl
+given-test false v w e = let z : _≡_ {A = ℕ} 0 1 = cc in absurd (omega arith)
+
+pub given-value : {X : Type 0} (b : Bool) (v w : X) → Some w ≡ answer b v → w ≡ v
+given-value true v w e = cc
+given-value false v w e = let z : _≡_ {A = ℕ} 0 1 = cc in absurd (omega arith)
