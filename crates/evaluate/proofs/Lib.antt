@@ -1,0 +1,11 @@
+pub mod Bits
+pub mod Fitting
+pub mod Summing
+pub mod Weighing
+pub mod Widening
+pub mod Reading
+pub mod Costing
+pub mod Bounding
+pub mod Firsts
+pub mod Slacking
+pub mod Flooring
