@@ -216,7 +216,9 @@ fn run(rt: &LibcRuntime) -> Result<(), AnyError> {
     for text in BufReader::new(rt.stdin()).lines(heap) {
         let text = text?;
         let numbers = numbers(heap, text.as_str())?;
-        let mut line = Line { left: numbers.as_slice() };
+        let mut line = Line {
+            left: numbers.as_slice(),
+        };
         let kind = line.number();
         run_case(rt, heap, kind, &mut line)?;
     }

@@ -22,7 +22,7 @@ here-long k i p es vs h n l e =
 pub clear-entry-requires : need.clear-entry-requires
 clear-entry-requires c κs =
     let l = here-long (c .args .k) (c .loop-line .line-index) (c .args .pivot-line .now) (c .args .lines .now) (c .loop-line .lines) (omega arith) (omega arith)
-        (omega (arith, c .told-lines (c .loop-line .line-index) (c .loop-line-test .taken))) (c .loop-line .inv) in
+    (omega (arith, c .told-lines (c .loop-line .line-index) (c .loop-line-test .taken))) (c .loop-line .inv) in
     rw sub-zero (record { same = l; column = omega arith })
 
 pub loop-line-again : need.loop-line-again
@@ -34,7 +34,7 @@ loop-line-again c =
     let ys = c .clear-entry .last .line in
     let n = length-seen w (c .args .lines .now) in
     let l = here-long (c .args .k) (c .loop-line .line-index) (c .args .pivot-line .now) (c .args .lines .now) (c .loop-line .lines) (omega arith) (omega arith)
-        (omega (arith, c .told-lines (c .loop-line .line-index) (c .loop-line-test .taken))) (c .loop-line .inv) in
+    (omega (arith, c .told-lines (c .loop-line .line-index) (c .loop-line-test .taken))) (c .loop-line .inv) in
     let q : ys ≡ g (take w (getD vs i [])) = rw sub-zero at (c .clear-entry .ensures) in
     let m : length ys ≡ w = ap length q ∙ length-cleared (c .args .k) (c .args .pivot-line .now) (take w (getD vs i [])) ∙ l in
     let t : take w (ys ++ postOf 0 (w - 0) (getD vs i [])) ≡ g (take w (getD vs i [])) = take-at ys (postOf 0 (w - 0) (getD vs i [])) w m ∙ q in

@@ -6,7 +6,7 @@ use Rattle.elimination.proofs.columns.eliminate_column.Needs as need
 pub returns-then-not-can-be-pivot : need.returns-then-not-can-be-pivot
 returns-then-not-can-be-pivot c =
     done-none (c .args .k) (c .pick-pivot-pivot .result .place) (c .pick-pivot-pivot .result .size) (seen (c .args .width) (c .args .lines .now)) (c .pick-pivot-pivot .ensures .value)
-        (sym (c .if-not-can-be-pivot .ensures tt))
+    (sym (c .if-not-can-be-pivot .ensures tt))
 
 pub returns : need.returns
 returns c =

@@ -37,7 +37,7 @@ pub loop-a-again : need.loop-a-again
 loop-a-again c =
     let h = c .in-Some .ensures tt .steps in
     sym (ap (λ z. rest (c .loop-a .left) z (iter-rest (zip-second (c .loop-a .a-iterator)))) (h .0) ∙ ap
-        (λ z. rest (c .loop-a .left) (c .in-Some .a .now ∷ iter-rest (zip-first (c .next .last .self))) z) (h .1)) ∙ c .loop-a .inv
+    (λ z. rest (c .loop-a .left) (c .in-Some .a .now ∷ iter-rest (zip-first (c .next .last .self))) z) (h .1)) ∙ c .loop-a .inv
 
 pub returns : need.returns
 returns c = sym (ended (c .loop-a .a-iterator) (c .next .last .self) (c .loop-a .left) (c .in-None .ensures tt .steps)) ∙ c .loop-a .inv

@@ -25,4 +25,4 @@ returns-then-k-job-2 c =
     let f : SFits w64 (c .negated .result) = search needs in
     let g : SFits w64 (c .weight .result) = search needs in
     rw (a, b) (toZ-ofZ w64 _ f ∙ c .negated .ensures ∙ ap negℤ (toZ-ofZ w64 _ g ∙ c .weight .ensures .value ∙ ap (λ z. weight (problemOf j) (z .limit) (c .args .r))
-        (getD-default ms (k - j .ropes) _ _ (omega arith))))
+    (getD-default ms (k - j .ropes) _ _ (omega arith))))
