@@ -5,6 +5,15 @@ use card::CardTableTable;
 use card::Contents;
 use card::Fault;
 use card::Sizes;
+use evaluate::Finding;
+use evaluate::Terms;
+use evaluate::cost;
+use evaluate::first_broken_row;
+use evaluate::floor;
+use evaluate::refutes;
+use opening::Lists;
+use opening::Refusal;
+use opening::opening_fault;
 use std::alloc::AllocError;
 use std::alloc::Global;
 use std::error::AnyError;
@@ -151,6 +160,123 @@ fn card_tables(rt: &LibcRuntime, card: &[u8]) -> io::Result<()> {
     print_table(rt, "a card cut off in G", &cut)
 }
 
+fn print_opening(rt: &LibcRuntime, name: &str, fault: Option<Refusal>) -> io::Result<()> {
+    let Some(refusal) = fault else {
+        return println!(rt, "{name}: opens");
+    };
+    let notice = refusal.notice();
+    let number = notice.number;
+    let first = notice.first;
+    let second = notice.second;
+    println!(rt, "{name}: refused {number} at {first} {second}")
+}
+
+/// A job of n ropes and no rows whose lists are all 0.
+fn open_zeros<G: Table>(heap: Global, g: &G, n: usize) -> Result<Option<Refusal>, AllocError> {
+    let records: [Record; 0] = [];
+    let a = Triplets { height: 0, width: 0, records: &records };
+    let list = vec![in heap; 0i64; n]?;
+    let slip = vec![in heap; 0i64; n.saturating_mul(n)]?;
+    let none: [i64; 0] = [];
+    let lists = Lists { c: list.as_slice(), l: list.as_slice(), u: list.as_slice(), lo: &none, hi: &none, slip: slip.as_slice() };
+    Ok(opening_fault(g, &a, &lists))
+}
+
+fn open_sizes(rt: &LibcRuntime) -> Result<(), AnyError> {
+    let records: [Record; 0] = [];
+    let sixteen = Triplets { height: 16, width: 16, records: &records };
+    print_opening(rt, "16 ropes", open_zeros(rt.alloc(), &sixteen, 16)?)?;
+    let seventeen = Triplets { height: 17, width: 17, records: &records };
+    print_opening(rt, "17 ropes", open_zeros(rt.alloc(), &seventeen, 17)?)?;
+    let most = [Record { row: 0, column: 0, number: 4096 }];
+    let one = Triplets { height: 1, width: 1, records: &most };
+    print_opening(rt, "4096 in G", open_zeros(rt.alloc(), &one, 1)?)?;
+    let more = [Record { row: 0, column: 0, number: 4097 }];
+    let beyond = Triplets { height: 1, width: 1, records: &more };
+    print_opening(rt, "4097 in G", open_zeros(rt.alloc(), &beyond, 1)?)?;
+    Ok(())
+}
+
+/// G = (1, 2; 2, 4), which no slip of zeros shows to be convex.
+fn open_flat(rt: &LibcRuntime, name: &str, slip: &[i64]) -> io::Result<()> {
+    let records = [
+        Record { row: 0, column: 0, number: 1 },
+        Record { row: 0, column: 1, number: 2 },
+        Record { row: 1, column: 0, number: 2 },
+        Record { row: 1, column: 1, number: 4 },
+    ];
+    let g = Triplets { height: 2, width: 2, records: &records };
+    let nothing: [Record; 0] = [];
+    let a = Triplets { height: 0, width: 7, records: &nothing };
+    let zeros = [0i64, 0];
+    let none: [i64; 0] = [];
+    let lists = Lists { c: &zeros, l: &zeros, u: &zeros, lo: &none, hi: &none, slip };
+    print_opening(rt, name, opening_fault(&g, &a, &lists))
+}
+
+/// The terms of the two-rope job with other limits of its row.
+fn two_rope_terms(heap: Global, lo: i64, hi: i64) -> Result<Option<Terms>, AllocError> {
+    let c = Vec::from_slice(heap, &[-4i64, -6])?;
+    let l = Vec::from_slice(heap, &[0i64, 0])?;
+    let u = Vec::from_slice(heap, &[10i64, 10])?;
+    let low = Vec::from_slice(heap, &[lo])?;
+    let high = Vec::from_slice(heap, &[hi])?;
+    Ok(Terms::new(c, l, u, low, high))
+}
+
+fn print_floor(rt: &LibcRuntime, card: &[u8], terms: &Terms, p: &[i64], y: &[i64]) -> io::Result<()> {
+    let g = CardTable::curvature(card);
+    let a = CardTable::rows(card);
+    match floor(&g, &a, terms, p, y) {
+        Some(v) => println!(rt, "floor {v}"),
+        None => println!(rt, "no pair"),
+    }
+}
+
+fn print_refutes(rt: &LibcRuntime, card: &[u8], terms: &Terms) -> io::Result<()> {
+    let a = CardTable::rows(card);
+    match refutes(&a, terms, &[1]) {
+        Some(true) => println!(rt, "1 refutes"),
+        Some(false) => println!(rt, "1 does not refute"),
+        None => println!(rt, "no multipliers"),
+    }
+}
+
+fn print_point(rt: &LibcRuntime, card: &[u8], terms: &Terms, z: &[i64]) -> io::Result<()> {
+    let g = CardTable::curvature(card);
+    let a = CardTable::rows(card);
+    match first_broken_row(&a, terms, z) {
+        Finding::Kept => print!(rt, "rows kept")?,
+        Finding::Broken(i) => print!(rt, "row {i} broken")?,
+        Finding::NoPoint => print!(rt, "no point")?,
+    }
+    match cost(&g, terms, z) {
+        Some(q) => println!(rt, ", cost {q}"),
+        None => println!(rt, ", no cost"),
+    }
+}
+
+/// The two-rope job: what its points cost, what its pairs show, and what refutes it once its row is amended.
+fn evaluations(rt: &LibcRuntime, card: &[u8]) -> Result<(), AnyError> {
+    let heap = rt.alloc();
+    if let Some(terms) = two_rope_terms(heap, 0, 3)? {
+        print_floor(rt, card, &terms, &[0, 0], &[0])?;
+        print_point(rt, card, &terms, &[1, 2])?;
+        print_point(rt, card, &terms, &[2, 2])?;
+        print_floor(rt, card, &terms, &[1, 2], &[-512])?;
+    }
+    if let Some(terms) = two_rope_terms(heap, 0, 2)? {
+        print_floor(rt, card, &terms, &[1, 2], &[-512])?;
+    }
+    if let Some(terms) = two_rope_terms(heap, 21, 30)? {
+        print_refutes(rt, card, &terms)?;
+    }
+    if let Some(terms) = two_rope_terms(heap, 20, 30)? {
+        print_refutes(rt, card, &terms)?;
+    }
+    Ok(())
+}
+
 fn run(rt: &LibcRuntime) -> Result<(), AnyError> {
     let Some(contents) = two_ropes(rt.alloc())? else {
         return Err("the two-rope job has other counts".into());
@@ -170,6 +296,10 @@ fn run(rt: &LibcRuntime) -> Result<(), AnyError> {
     blank_throughout(rt)?;
     layers(rt, out.as_slice())?;
     card_tables(rt, out.as_slice())?;
+    open_sizes(rt)?;
+    open_flat(rt, "slip 0", &[0, 0, 0, 0])?;
+    open_flat(rt, "slip 1024 2048", &[1024, 2048, 0, 0])?;
+    evaluations(rt, out.as_slice())?;
     Ok(())
 }
 
