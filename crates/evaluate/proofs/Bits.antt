@@ -21,12 +21,6 @@ fits n z h l = omega (arith, ints)
 pub back-is : (n : ℕ) (z : ℤ) → natAbs z ≤ n → n < 2 ^ 63 → back z ≡ z
 back-is n z h l = toZ-ofZ w64 z (fits n z h l)
 
-pub small-back : (n : ℕ) (z : ℤ) → natAbs z ≤ n → n < 2 ^ 63 → natAbs (back z) ≤ n
-small-back n z h l = rw (back-is n z h l) h
-
-pub small-of : (n : ℕ) (x v : ℤ) → x ≡ v → natAbs v ≤ n → natAbs x ≤ n
-small-of n x v e h = rw e h
-
 -- a result that is known, and an element of a Vec, both as the next call takes them
 pub back-of : (n : ℕ) (r v : ℤ) → r ≡ v → natAbs v ≤ n → n < 2 ^ 63 → back r ≡ v
 back-of n r v e h l = ap back e ∙ back-is n v h l

@@ -1,6 +1,6 @@
 -- A bound and a row as the code tests them, for the plan's problem with any other table.
 use Prim.Native.Nat.{ℕ}
-use mathlib.Core.Bool.{Bool, true}
+use mathlib.Core.Bool.{Bool}
 use mathlib.Core.List.{List}
 use mathlib.Core.Path.{_≡_, ap, sym, _∙_}
 use lib.IntN.{ℤ}

@@ -1,5 +1,5 @@
 -- The first place that fails a test, as a search ends, and what it says of feasibility.
-use Prim.Native.Nat.{ℕ, _+_, _<_}
+use Prim.Native.Nat.{ℕ, _<_}
 use mathlib.Core.Bool.{Bool, true, false}
 use mathlib.Core.Logic.{⊎-elim}
 use mathlib.Core.Path.{_≡_, refl, sym, ap, _∙_}
@@ -15,7 +15,6 @@ use Rattle.duality.specs.Problem.{Problem, Feasible, rowAt}
 use Rattle.duality.specs.Tests.{all, firstNot, between}
 use Rattle.duality.proofs.Tests.{first-at, first-none, all-at, all-not, all-from, between-parts, between-from}
 use Rattle.evaluate.specs.Findings.{Bound-kept, Row-kept, keepsBound, keepsRow, finding, found, Finds, feasible}
-use Rattle.evaluate.specs.declared.finding.Finding.{Finding}
 use Rattle.evaluate.specs.declared.finding.Finding.the-variants.{Kept, Broken, NoPoint}
 
 pub between-decides : (low high x : ℤ) → Decides (between low high x) ((low ≤ℤ x) × (x ≤ℤ high))

@@ -58,10 +58,6 @@ module _ (t : Terms) where
   pub hi-read : (i : ℕ) (x : ℤ) → x ≡ getD (vec-items (t .hi)) i x → i < vec-len (t .lo) → back x ≡ places (vec-items (t .hi)) i
   hi-read i x e l = read-back 536870912 (vec-items (t .hi)) i (vec-len (t .hi)) x e (omega (arith, t .ceilings .0)) (t .hi .ok .0) (hi-small i) (lit< tt)
 
-  -- of a list that was tested against the length of c, as the code has it
-  pub many-of : (n limit : ℕ) (z : List ℤ) → n ≡ vec-len (t .c) → manyWithin n limit z ≡ true → manyWithin (vec-len (t .c)) limit z ≡ true
-  many-of n limit z e p = ap (λ (m : ℕ). manyWithin m limit z) (sym e) ∙ p
-
   pub summable : (limit : ℕ) (z : List ℤ) → limit ≤ 1073741824 → manyWithin (vec-len (t .c)) limit z ≡ true → Summable z
   summable limit z le p =
       record {

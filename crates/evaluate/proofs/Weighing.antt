@@ -3,7 +3,6 @@ use Prim.Native.Nat.{ℕ, _+_, _*_, _^_, _≤_, _<_}
 use mathlib.Core.Bool.{true}
 use mathlib.Core.List.{List}
 use mathlib.Core.Path.{_≡_, ap, _∙_}
-use native.Mathlib.Nat.{le-refl}
 use native.Mathlib.Omega.{arith}
 use lib.IntN.{ℤ, natAbs, _+ℤ_, _*ℤ_}
 use lib.ListN.{length}
@@ -22,9 +21,6 @@ use Rattle.evaluate.proofs.Summing.{Near, sum-small}
 module _ (M : Matrix) (near : Near M) (y : List ℤ) (few : length y ≤ 32) (within : allWithin 16777216 y ≡ true) (j : ℕ) where
   part-small : (k : ℕ) → k ≤ length y → natAbs (column k M (places y) j) ≤ 2 ^ 49
   part-small k l = sum-small k 32 16777216 1048576 (places y) (λ i. M i j) (omega arith) (λ i. within-at 16777216 y i within) (λ i. near i j)
-
-  pub column-small : natAbs (column (length y) M (places y) j) ≤ 2 ^ 49
-  column-small = part-small (length y) (le-refl (length y))
 
   pub running-small : (k : ℕ) (s : ℤ) → k < length y → s ≡ column k M (places y) j → natAbs s ≤ 2 ^ 61
   running-small k s l e = omega (arith, ap natAbs e, part-small k (omega arith))

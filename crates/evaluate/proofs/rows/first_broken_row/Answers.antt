@@ -11,14 +11,14 @@ use Rattle.table.proofs.Bounds.{matrix-near}
 use Rattle.evaluate.specs.Terms.{problemOf}
 use Rattle.evaluate.specs.Findings.{Row-kept}
 use Rattle.evaluate.proofs.Summing.{row-back}
-use Rattle.evaluate.proofs.Reading.{lo-read, hi-read, many-of, many-long, summable}
+use Rattle.evaluate.proofs.Reading.{lo-read, hi-read, many-at, many-long, summable}
 use Rattle.evaluate.proofs.Firsts.{row-decides, finds-broken, finds-kept, found-broken, found-kept}
 use Rattle.evaluate.proofs.Bounding.{meets, meets-is}
 use Rattle.evaluate.proofs.rows.first_broken_row.Needs as need
 
 pub row-of-requires : need.row-of-requires
 row-of-requires g c κs =
-    let p = many-of (c .args .terms .now) _ 1073741824 (c .args .z .now) (c .len .ensures) (sym (c .if-not-many-within .ensures tt)) in
+    let p = many-at _ _ 1073741824 (c .args .z .now) (c .len .ensures) (sym (c .if-not-many-within .ensures tt)) in
     summable (c .args .terms .now) 1073741824 (c .args .z .now) (le-refl 1073741824) p
 
 pub returns-then-not-between : need.returns-then-not-between
@@ -26,7 +26,7 @@ returns-then-not-between g c =
     let t = c .args .terms .now in
     let z = c .args .z .now in
     let grid = g .T·Table .meant (c .args .a .now) in
-    let p = many-of t _ 1073741824 z (c .len .ensures) (sym (c .if-not-many-within .ensures tt)) in
+    let p = many-at _ _ 1073741824 z (c .len .ensures) (sym (c .if-not-many-within .ensures tt)) in
     let lo = lo-read t (c .loop-i .i) _ (c .index .ensures) (omega arith) in
     let hi = hi-read t (c .loop-i .i) _ (c .index-in-loop-i .ensures) (omega arith) in
     let s = row-back (matrixOf grid) (matrix-near grid) z (summable t 1073741824 z (le-refl 1073741824) p) (c .loop-i .i) (c .row-of .result) (c .row-of .ensures) in
@@ -42,7 +42,7 @@ loop-i-again g c =
     let t = c .args .terms .now in
     let z = c .args .z .now in
     let grid = g .T·Table .meant (c .args .a .now) in
-    let p = many-of t _ 1073741824 z (c .len .ensures) (sym (c .if-not-many-within .ensures tt)) in
+    let p = many-at _ _ 1073741824 z (c .len .ensures) (sym (c .if-not-many-within .ensures tt)) in
     let lo = lo-read t (c .loop-i .i) _ (c .index .ensures) (omega arith) in
     let hi = hi-read t (c .loop-i .i) _ (c .index-in-loop-i .ensures) (omega arith) in
     let s = row-back (matrixOf grid) (matrix-near grid) z (summable t 1073741824 z (le-refl 1073741824) p) (c .loop-i .i) (c .row-of .result) (c .row-of .ensures) in
@@ -54,7 +54,7 @@ returns g c =
     let t = c .args .terms .now in
     let z = c .args .z .now in
     let grid = g .T·Table .meant (c .args .a .now) in
-    let p = many-of t _ 1073741824 z (c .len .ensures) (sym (c .if-not-many-within .ensures tt)) in
+    let p = many-at _ _ 1073741824 z (c .len .ensures) (sym (c .if-not-many-within .ensures tt)) in
     let e : c .loop-i .i ≡ vec-len (t .lo) = omega arith in
     let all = ap (firstNot (meets (matrixOf grid) t z)) (sym e) ∙ c .loop-i .inv in
     record {
