@@ -174,25 +174,60 @@ fn print_opening(rt: &LibcRuntime, name: &str, fault: Option<Refusal>) -> io::Re
 /// A job of n ropes and no rows whose lists are all 0.
 fn open_zeros<G: Table>(heap: Global, g: &G, n: usize) -> Result<Option<Refusal>, AllocError> {
     let records: [Record; 0] = [];
-    let a = Triplets { height: 0, width: 0, records: &records };
+    let a = Triplets {
+        height: 0,
+        width: 0,
+        records: &records,
+    };
     let list = vec![in heap; 0i64; n]?;
     let slip = vec![in heap; 0i64; n.saturating_mul(n)]?;
     let none: [i64; 0] = [];
-    let lists = Lists { c: list.as_slice(), l: list.as_slice(), u: list.as_slice(), lo: &none, hi: &none, slip: slip.as_slice() };
+    let lists = Lists {
+        c: list.as_slice(),
+        l: list.as_slice(),
+        u: list.as_slice(),
+        lo: &none,
+        hi: &none,
+        slip: slip.as_slice(),
+    };
     Ok(opening_fault(g, &a, &lists))
 }
 
 fn open_sizes(rt: &LibcRuntime) -> Result<(), AnyError> {
     let records: [Record; 0] = [];
-    let sixteen = Triplets { height: 16, width: 16, records: &records };
+    let sixteen = Triplets {
+        height: 16,
+        width: 16,
+        records: &records,
+    };
     print_opening(rt, "16 ropes", open_zeros(rt.alloc(), &sixteen, 16)?)?;
-    let seventeen = Triplets { height: 17, width: 17, records: &records };
+    let seventeen = Triplets {
+        height: 17,
+        width: 17,
+        records: &records,
+    };
     print_opening(rt, "17 ropes", open_zeros(rt.alloc(), &seventeen, 17)?)?;
-    let most = [Record { row: 0, column: 0, number: 4096 }];
-    let one = Triplets { height: 1, width: 1, records: &most };
+    let most = [Record {
+        row: 0,
+        column: 0,
+        number: 4096,
+    }];
+    let one = Triplets {
+        height: 1,
+        width: 1,
+        records: &most,
+    };
     print_opening(rt, "4096 in G", open_zeros(rt.alloc(), &one, 1)?)?;
-    let more = [Record { row: 0, column: 0, number: 4097 }];
-    let beyond = Triplets { height: 1, width: 1, records: &more };
+    let more = [Record {
+        row: 0,
+        column: 0,
+        number: 4097,
+    }];
+    let beyond = Triplets {
+        height: 1,
+        width: 1,
+        records: &more,
+    };
     print_opening(rt, "4097 in G", open_zeros(rt.alloc(), &beyond, 1)?)?;
     Ok(())
 }
@@ -200,17 +235,48 @@ fn open_sizes(rt: &LibcRuntime) -> Result<(), AnyError> {
 /// G = (1, 2; 2, 4), which no slip of zeros shows to be convex.
 fn open_flat(rt: &LibcRuntime, name: &str, slip: &[i64]) -> io::Result<()> {
     let records = [
-        Record { row: 0, column: 0, number: 1 },
-        Record { row: 0, column: 1, number: 2 },
-        Record { row: 1, column: 0, number: 2 },
-        Record { row: 1, column: 1, number: 4 },
+        Record {
+            row: 0,
+            column: 0,
+            number: 1,
+        },
+        Record {
+            row: 0,
+            column: 1,
+            number: 2,
+        },
+        Record {
+            row: 1,
+            column: 0,
+            number: 2,
+        },
+        Record {
+            row: 1,
+            column: 1,
+            number: 4,
+        },
     ];
-    let g = Triplets { height: 2, width: 2, records: &records };
+    let g = Triplets {
+        height: 2,
+        width: 2,
+        records: &records,
+    };
     let nothing: [Record; 0] = [];
-    let a = Triplets { height: 0, width: 7, records: &nothing };
+    let a = Triplets {
+        height: 0,
+        width: 7,
+        records: &nothing,
+    };
     let zeros = [0i64, 0];
     let none: [i64; 0] = [];
-    let lists = Lists { c: &zeros, l: &zeros, u: &zeros, lo: &none, hi: &none, slip };
+    let lists = Lists {
+        c: &zeros,
+        l: &zeros,
+        u: &zeros,
+        lo: &none,
+        hi: &none,
+        slip,
+    };
     print_opening(rt, name, opening_fault(&g, &a, &lists))
 }
 
@@ -224,7 +290,13 @@ fn two_rope_terms(heap: Global, lo: i64, hi: i64) -> Result<Option<Terms>, Alloc
     Ok(Terms::new(c, l, u, low, high))
 }
 
-fn print_floor(rt: &LibcRuntime, card: &[u8], terms: &Terms, p: &[i64], y: &[i64]) -> io::Result<()> {
+fn print_floor(
+    rt: &LibcRuntime,
+    card: &[u8],
+    terms: &Terms,
+    p: &[i64],
+    y: &[i64],
+) -> io::Result<()> {
     let g = CardTable::curvature(card);
     let a = CardTable::rows(card);
     match floor(&g, &a, terms, p, y) {
