@@ -1,8 +1,8 @@
 -- Tests over the places of lists.
 use Prim.Native.Nat.{ℕ, zero, suc}
-use mathlib.Core.Bool.{Bool, true, false, _&&_}
+use mathlib.Core.Bool.{Bool, true, false, cond, _&&_}
 use mathlib.Core.List.{List}
-use lib.Dec.{leb}
+use lib.Dec.{leb, eqb}
 use lib.IntN.{ℤ, natAbs}
 use lib.ListN.{length}
 use lib.Signed.{leZ}
@@ -39,3 +39,11 @@ between low high x = leZ low x && leZ x high
 -- no lower number lies above the upper one at its place
 abbrev pub inOrder : List ℤ → List ℤ → Bool
 inOrder lows highs = all (λ k. leZ (places lows k) (places highs k)) (length lows)
+
+-- n numbers, within ±limit
+abbrev pub manyWithin : ℕ → ℕ → List ℤ → Bool
+manyWithin n limit xs = eqb (length xs) n && allWithin limit xs
+
+-- a value where the test holds, or nothing
+abbrev pub answer : {X : Type 0} → Bool → X → Option X
+answer b v = cond b (Some v) None

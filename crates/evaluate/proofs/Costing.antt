@@ -18,7 +18,8 @@ use Rattle.duality.proofs.Sums.{∑-more}
 use Rattle.duality.proofs.Sizes.{small-add, small-mul, small-∑}
 use Rattle.duality.proofs.Costs.{cost-rows}
 use Rattle.table.specs.Grid.{Grid, matrixOf}
-use Rattle.evaluate.specs.Terms.{manyWithin, problemOf}
+use Rattle.evaluate.specs.Terms.{problemOf}
+use Rattle.duality.specs.Tests.{manyWithin}
 use Rattle.evaluate.specs.declared.terms.Terms.{Terms}
 use Rattle.evaluate.proofs.Bits.{back, back-is, back-of}
 use Rattle.evaluate.proofs.Summing.{Near, sum-small}

@@ -19,7 +19,8 @@ use Rattle.duality.specs.Refutation.{most-allowed, least-needed, Refutes}
 use Rattle.duality.proofs.Sizes.{small-add}
 use Rattle.duality.proofs.Refutation.{none-sound}
 use Rattle.table.specs.Grid.{Grid}
-use Rattle.evaluate.specs.Terms.{manyWithin, problemOf}
+use Rattle.evaluate.specs.Terms.{problemOf}
+use Rattle.duality.specs.Tests.{manyWithin}
 use Rattle.evaluate.specs.Floors.{slackOfRows, slackOfRopes, Leaves-none}
 use Rattle.evaluate.specs.declared.terms.Terms.{Terms}
 use Rattle.evaluate.proofs.Slacking.{row-part, row-part-small, rope-part, rope-part-small, most-part, most-part-small, least-part, least-part-small}

@@ -13,7 +13,8 @@ use Rattle.std.proofs.shelf.Tests.{and-parts, eqb-true, cond-true}
 use Rattle.duality.specs.Lists.{places}
 use Rattle.duality.specs.Tests.{allWithin}
 use Rattle.duality.proofs.Tests.{within-at}
-use Rattle.evaluate.specs.Terms.{manyWithin, answer, Summable}
+use Rattle.evaluate.specs.Terms.{Summable}
+use Rattle.duality.specs.Tests.{manyWithin, answer}
 use Rattle.evaluate.specs.declared.terms.Terms.{Terms}
 use Rattle.evaluate.proofs.Bits.{back, read-back}
 

@@ -15,7 +15,8 @@ use Rattle.duality.specs.Refutation.{highest, lowest, most-allowed, least-neede
 use Rattle.duality.proofs.Sizes.{small-add, small-sub, small-mul, small-max, small-min}
 use Rattle.table.specs.Grid.{Grid, matrixOf}
 use Rattle.table.proofs.Bounds.{matrix-near}
-use Rattle.evaluate.specs.Terms.{manyWithin, problemOf}
+use Rattle.evaluate.specs.Terms.{problemOf}
+use Rattle.duality.specs.Tests.{manyWithin}
 use Rattle.evaluate.specs.declared.terms.Terms.{Terms}
 use Rattle.evaluate.proofs.Bits.{back, back-of}
 use Rattle.evaluate.proofs.Summing.{sum-small}

@@ -56,14 +56,6 @@ problemOf g a t =
       u = places (vec-items (t .u));
     }
 
--- n numbers, within ±limit
-abbrev pub manyWithin : ℕ → ℕ → List ℤ → Bool
-manyWithin n limit xs = eqb (length xs) n && allWithin limit xs
-
--- a value where the test holds, or nothing
-abbrev pub answer : {X : Type 0} → Bool → X → Option X
-answer b v = cond b (Some v) None
-
 -- a list whose products with a row add up in 64 bits
 pub record Summable (z : List ℤ) : Type 0 where
   pub few : length z ≤ 16

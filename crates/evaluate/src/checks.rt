@@ -3,7 +3,7 @@ ghost use mathlib.Core.Path.{_≡_};
 ghost use mathlib.Core.Bool.{_&&_};
 ghost use lib.ListN.{length};
 ghost use Rattle.duality.specs.Tests.{allWithin, inOrder, between as betweenOf};
-ghost use Rattle.evaluate.specs.Terms.{manyWithin};
+ghost use Rattle.duality.specs.Tests.{manyWithin};
 
 /// Linear costs.
 pub(crate) const PRICE_LIMIT: u64 = 268_435_456;

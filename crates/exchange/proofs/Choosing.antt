@@ -15,7 +15,7 @@ use Rattle.std.specs.declared.option.Option.the-variants.{Some, None}
 use Rattle.duality.specs.Lists.{places}
 use Rattle.duality.specs.Problem.{Problem, rowAt}
 use Rattle.job.specs.Numbers.{problemOf}
-use Rattle.job.specs.Points.{aPoint, answer}
+use Rattle.duality.specs.Tests.{manyWithin, answer}
 use Rattle.job.specs.Rows.{excess}
 use Rattle.job.specs.declared.numbers.Job.{Job}
 use Rattle.job.proofs.Reading.{reads-row, row-is}
@@ -33,7 +33,7 @@ use Rattle.exchange.specs.declared.members.Choice.{Choice}
 use Rattle.exchange.specs.declared.members.Choice.the-variants.{Enter, Leave, Full, Done}
 use Rattle.exchange.proofs.Folds.{upto-more}
 
-pub row-small : (j : Job) (z : List ℤ) (i : ℕ) → aPoint (j .ropes) 1073741824 z ≡ true → i < j .rows → natAbs (rowAt (problemOf j) (places z) i) ≤ 2 ^ 54
+pub row-small : (j : Job) (z : List ℤ) (i : ℕ) → manyWithin (j .ropes) 1073741824 z ≡ true → i < j .rows → natAbs (rowAt (problemOf j) (places z) i) ≤ 2 ^ 54
 row-small j z i p l =
     let r = reads-row j z 1073741824 (le-refl 1073741824) p i (vec-items (j .a)) l refl in
     let e = row-is j z 1073741824 (le-refl 1073741824) p i (vec-items (j .a)) refl in

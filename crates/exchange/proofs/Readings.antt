@@ -14,7 +14,7 @@ use Rattle.std.proofs.shelf.Lists.{length-map, length-take-le, length-drop, len
 use Rattle.std.proofs.shelf.Tests.{and-from}
 use Rattle.duality.specs.Lists.{places}
 use Rattle.duality.specs.Problem.{Problem}
-use Rattle.job.specs.Points.{aPoint}
+use Rattle.duality.specs.Tests.{manyWithin}
 use Rattle.duality.specs.Tests.{within, allWithin}
 use Rattle.duality.proofs.Tests.{all-from}
 use Rattle.elimination.specs.Lines.{at, inside}
@@ -43,7 +43,7 @@ module _ (n m : ℕ) (X : List Float) (h : n + m ≤ length X) where
   pub pressures-same : pressed (take m (drop n X)) ≡ pressed (drop n (take (n + m) X))
   pressures-same = ap pressed (sym (drop-take n m X))
 
-  pub pulls-point : ((k : ℕ) → k < n + m → inside (at X k) ≡ true) → aPoint n 1073741824 (pulled (take n X)) ≡ true
+  pub pulls-point : ((k : ℕ) → k < n + m → inside (at X k) ≡ true) → manyWithin n 1073741824 (pulled (take n X)) ≡ true
   pulls-point q =
       let z = pulled (take n X) in
       let l = pulls-long in

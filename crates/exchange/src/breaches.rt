@@ -4,7 +4,7 @@ ghost use mathlib.Core.Bool.{true};
 ghost use Prim.Native.Nat.{_^_, _<_, _≤_};
 ghost use lib.IntN.{natAbs};
 ghost use Rattle.job.specs.Numbers.{problemOf};
-ghost use Rattle.job.specs.Points.{aPoint};
+ghost use Rattle.duality.specs.Tests.{manyWithin};
 ghost use Rattle.job.specs.Rows.{excess as excessOf};
 ghost use Rattle.exchange.specs.Members.{Of};
 ghost use Rattle.exchange.specs.Breaches.{same as sameOf, holds as holdsOf, valueAt, breach as breachOf, worse as worseOf, worstRow, worst as worstOf};
@@ -42,7 +42,7 @@ pub(crate) fn holds(members: &[Member], limit: Limit) -> bool
 
 fn value_at(job: &Job, pulls: &[i64], limit: Limit) -> i64
     requires limit { ⌜ Of (now job .ropes) (now job .rows) limit ⌝ }
-    requires point { ⌜ aPoint (now job .ropes) 1073741824 (now pulls) ≡ true ⌝ }
+    requires point { ⌜ manyWithin (now job .ropes) 1073741824 (now pulls) ≡ true ⌝ }
     ensures value { λ r. ⌜ r ≡ valueAt (problemOf (now (job .entry))) (now (pulls .entry)) limit ⌝ }
     ensures small { λ r. ⌜ natAbs r ≤ 2 ^ 54 ⌝ }
 {
@@ -54,7 +54,7 @@ fn value_at(job: &Job, pulls: &[i64], limit: Limit) -> i64
 
 fn row_value(job: &Job, pulls: &[i64], i: usize) -> i64
     requires row { ⌜ i < now job .rows ⌝ }
-    requires point { ⌜ aPoint (now job .ropes) 1073741824 (now pulls) ≡ true ⌝ }
+    requires point { ⌜ manyWithin (now job .ropes) 1073741824 (now pulls) ≡ true ⌝ }
     ensures value { λ r. ⌜ r ≡ valueAt (problemOf (now (job .entry))) (now (pulls .entry)) (Limit.Row i) ⌝ }
     ensures small { λ r. ⌜ natAbs r ≤ 2 ^ 54 ⌝ }
 {
@@ -78,7 +78,7 @@ fn excess(low: i64, high: i64, s: i64) -> i64
 
 fn breach(job: &Job, pulls: &[i64], limit: Limit) -> Breach
     requires limit { ⌜ Of (now job .ropes) (now job .rows) limit ⌝ }
-    requires point { ⌜ aPoint (now job .ropes) 1073741824 (now pulls) ≡ true ⌝ }
+    requires point { ⌜ manyWithin (now job .ropes) 1073741824 (now pulls) ≡ true ⌝ }
     ensures { λ r. ⌜ r ≡ breachOf (problemOf (now (job .entry))) (now (pulls .entry)) limit ⌝ }
 {
     let lower = low(job, limit);
@@ -92,7 +92,7 @@ fn breach(job: &Job, pulls: &[i64], limit: Limit) -> Breach
 
 fn worse(job: &Job, members: &[Member], pulls: &[i64], best: Breach, limit: Limit) -> Breach
     requires limit { ⌜ Of (now job .ropes) (now job .rows) limit ⌝ }
-    requires point { ⌜ aPoint (now job .ropes) 1073741824 (now pulls) ≡ true ⌝ }
+    requires point { ⌜ manyWithin (now job .ropes) 1073741824 (now pulls) ≡ true ⌝ }
     ensures { λ r. ⌜ r ≡ worseOf (problemOf (now (job .entry))) (now (members .entry)) (now (pulls .entry)) best limit ⌝ }
 {
     if holds(members, limit) {
@@ -107,7 +107,7 @@ fn worse(job: &Job, members: &[Member], pulls: &[i64], best: Breach, limit: Limi
 }
 
 fn worst_row(job: &Job, members: &[Member], pulls: &[i64]) -> Breach
-    requires { ⌜ aPoint (now job .ropes) 1073741824 (now pulls) ≡ true ⌝ }
+    requires { ⌜ manyWithin (now job .ropes) 1073741824 (now pulls) ≡ true ⌝ }
     ensures { λ r. ⌜ r ≡ worstRow (problemOf (now (job .entry))) (now (members .entry)) (now (pulls .entry)) ⌝ }
 {
     let mut best = Breach {
@@ -125,7 +125,7 @@ fn worst_row(job: &Job, members: &[Member], pulls: &[i64]) -> Breach
 
 /// The limit that the point breaks most, among those that are not held.
 pub(crate) fn worst(job: &Job, members: &[Member], pulls: &[i64]) -> Breach
-    requires { ⌜ aPoint (now job .ropes) 1073741824 (now pulls) ≡ true ⌝ }
+    requires { ⌜ manyWithin (now job .ropes) 1073741824 (now pulls) ≡ true ⌝ }
     ensures { λ r. ⌜ r ≡ worstOf (problemOf (now (job .entry))) (now (members .entry)) (now (pulls .entry)) ⌝ }
 {
     let mut best = worst_row(job, members, pulls);

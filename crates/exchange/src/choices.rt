@@ -4,7 +4,7 @@ ghost use mathlib.Core.Bool.{true};
 ghost use Prim.Native.Nat.{_<_, _≤_};
 ghost use lib.ListN.{length};
 ghost use Rattle.job.specs.Numbers.{problemOf};
-ghost use Rattle.job.specs.Points.{aPoint};
+ghost use Rattle.duality.specs.Tests.{manyWithin};
 ghost use Rattle.exchange.specs.Choice.{wrongness as wrongnessOf, mostWrong, chosen};
 use crate::breaches::worst;
 use crate::members::Choice;
@@ -51,7 +51,7 @@ fn most_wrong(members: &[Member], pressures: &[i64]) -> Wrong
 
 /// What becomes of the working set at these pulls and pressures.
 pub(crate) fn choose(job: &Job, members: &[Member], pulls: &[i64], pressures: &[i64]) -> Choice
-    requires point { ⌜ aPoint (now job .ropes) 1073741824 (now pulls) ≡ true ⌝ }
+    requires point { ⌜ manyWithin (now job .ropes) 1073741824 (now pulls) ≡ true ⌝ }
     requires pressures { ⌜ length (now pressures) ≡ length (now members) ⌝ }
     ensures { λ r. ⌜ r ≡ chosen (problemOf (now (job .entry))) (now (members .entry)) (now (pulls .entry)) (now (pressures .entry)) ⌝ }
 {

@@ -17,7 +17,7 @@ use Rattle.duality.proofs.Ring.{lin}
 use Rattle.duality.proofs.Sums.{∑-more, ∑-cong, ∑-zero, ∑-pick}
 use Rattle.duality.proofs.Sizes.{sizes, small-add, small-∑}
 use Rattle.job.specs.Numbers.{problemOf}
-use Rattle.job.specs.Points.{aPoint}
+use Rattle.duality.specs.Tests.{manyWithin}
 use Rattle.job.specs.Rows.{excess, outside, Row-met, Rows-met, Met-inside, meets}
 use Rattle.duality.specs.Tests.{between}
 use Rattle.job.specs.declared.numbers.Job.{Job}
@@ -79,7 +79,7 @@ row-met P z i e = between-parts (P .lo i) (P .hi i) (rowAt P z i) e
 pub row-broken : (P : Problem) (z : Vector) (i : ℕ) → meets P z i ≡ false → Row-met P z i → ⊥
 row-broken P z i e h = both-ways (meets P z i) e (between-from (P .lo i) (P .hi i) (rowAt P z i) (h .0) (h .1))
 
-module _ (j : Job) (z : List ℤ) (p : aPoint (j .ropes) 32768 z ≡ true) where
+module _ (j : Job) (z : List ℤ) (p : manyWithin (j .ropes) 32768 z ≡ true) where
   pub row-at-small : (i : ℕ) → natAbs (rowAt (problemOf j) (places z) i) ≤ 2 ^ 39
   row-at-small i = row-small j (places z) 32768 i (point-small (j .ropes) 32768 z p)
 

@@ -19,7 +19,8 @@ use Rattle.duality.proofs.Sizes.{small-add, small-mul, small-dot}
 use Rattle.duality.proofs.Forms.{dot-comm}
 use Rattle.duality.specs.Tests.{within, allWithin}
 use Rattle.job.specs.Numbers.{problemOf}
-use Rattle.job.specs.Points.{aPoint, answer, gradient}
+use Rattle.job.specs.Points.{gradient}
+use Rattle.duality.specs.Tests.{manyWithin, answer}
 use Rattle.job.specs.Strides.{strided, Reads}
 use Rattle.job.specs.declared.numbers.Job.{Job}
 use Rattle.job.proofs.Bits.{back, read-back}
@@ -29,10 +30,10 @@ use Rattle.duality.proofs.Tests.{within-at, all-from}
 pub place-within : (i n m k : ℕ) → i < n → k < m → i * m + k < n * m
 place-within i n m k l h = omega (arith, mul-le-mul {n₁ = suc i} {m₁ = m} {n₂ = n} {m₂ = m} (omega arith) (le-refl m))
 
-pub point-long : (n limit : ℕ) (z : List ℤ) → aPoint n limit z ≡ true → length z ≡ n
+pub point-long : (n limit : ℕ) (z : List ℤ) → manyWithin n limit z ≡ true → length z ≡ n
 point-long n limit z e = eqb-true _ _ (and-parts (eqb (length z) n) (allWithin limit z) e .0)
 
-pub point-small : (n limit : ℕ) (z : List ℤ) → aPoint n limit z ≡ true → (k : ℕ) → natAbs (places z k) ≤ limit
+pub point-small : (n limit : ℕ) (z : List ℤ) → manyWithin n limit z ≡ true → (k : ℕ) → natAbs (places z k) ≤ limit
 point-small n limit z e k = within-at limit z k (and-parts (eqb (length z) n) (allWithin limit z) e .1)
 
 module _ (j : Job) where
@@ -85,7 +86,7 @@ module _ (j : Job) where
   pub g-read : (i k : ℕ) (x : ℤ) → x ≡ getD (vec-items (j .g)) (i * j .ropes + k) x → i < j .ropes → k < j .ropes → back x ≡ problemOf j .G i k
   g-read i k x e l m = read-back 1048576 (vec-items (j .g)) (i * j .ropes + k) (vec-len (j .g)) x e (g-there i k l m) (j .g .ok .0) (g-small (i * j .ropes + k)) (lit< tt)
 
-module _ (j : Job) (z : List ℤ) (limit : ℕ) (le : limit ≤ 1073741824) (p : aPoint (j .ropes) limit z ≡ true) where
+module _ (j : Job) (z : List ℤ) (limit : ℕ) (le : limit ≤ 1073741824) (p : manyWithin (j .ropes) limit z ≡ true) where
   long : length z ≡ j .ropes
   long = point-long (j .ropes) limit z p
 
@@ -172,7 +173,7 @@ module _ (j : Job) (z : Vector) where
         small-add (2 ^ 39 + 2 ^ 39) (2 * 268435456) (row (j .ropes) (problemOf j .G) z i +ℤ column (j .ropes) (problemOf j .G) z i) (pos 2 *ℤ problemOf j .c i) both twice,
       )
 
-pub wider : (n : ℕ) (z : List ℤ) → aPoint n 32768 z ≡ true → aPoint n 1073741824 z ≡ true
+pub wider : (n : ℕ) (z : List ℤ) → manyWithin n 32768 z ≡ true → manyWithin n 1073741824 z ≡ true
 wider n z e =
     and-from (eqb (length z) n) (allWithin 1073741824 z) (eq-eqb _ _ (point-long n 32768 z e))
     (all-from (λ k. within 1073741824 (places z k)) (length z) (λ k _. le-leb _ _ (omega (arith, point-small n 32768 z e k))))

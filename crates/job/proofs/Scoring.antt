@@ -19,7 +19,8 @@ use Rattle.duality.proofs.Sums.{∑-more}
 use Rattle.duality.proofs.Sizes.{small-add, small-mul, small-∑}
 use Rattle.duality.proofs.Costs.{cost-rows}
 use Rattle.job.specs.Numbers.{problemOf}
-use Rattle.job.specs.Points.{aPoint, gradient}
+use Rattle.job.specs.Points.{gradient}
+use Rattle.duality.specs.Tests.{manyWithin}
 use Rattle.job.specs.Strides.{strided}
 use Rattle.job.specs.declared.numbers.Job.{Job}
 use Rattle.job.proofs.Bits.{back, back-is, back-of}
@@ -29,7 +30,7 @@ use Rattle.job.proofs.Reading.{along-is, across-is, c-small, point-small, alon
 abbrev pub cost-part : Job → List ℤ → Vector
 cost-part j z i = places z i *ℤ (row (j .ropes) (problemOf j .G) (places z) i +ℤ pos 2 *ℤ problemOf j .c i)
 
-module _ (j : Job) (z : List ℤ) (p : aPoint (j .ropes) 32768 z ≡ true) where
+module _ (j : Job) (z : List ℤ) (p : manyWithin (j .ropes) 32768 z ≡ true) where
   small : (k : ℕ) → natAbs (places z k) ≤ 32768
   small = point-small (j .ropes) 32768 z p
 

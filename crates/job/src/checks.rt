@@ -3,7 +3,7 @@ ghost use mathlib.Core.Path.{_≡_};
 ghost use mathlib.Core.Bool.{_&&_};
 ghost use lib.ListN.{length};
 ghost use Rattle.duality.specs.Tests.{allWithin, inOrder};
-ghost use Rattle.job.specs.Points.{aPoint};
+ghost use Rattle.duality.specs.Tests.{manyWithin};
 
 /// Numbers of G and A.
 pub(crate) const TABLE_LIMIT: u64 = 1_048_576;
@@ -43,7 +43,7 @@ pub(crate) fn in_order(lows: &[i64], highs: &[i64]) -> bool
 
 /// Whether a list is a point of n ropes, within ±limit.
 pub(crate) fn is_point(n: usize, limit: u64, z: &[i64]) -> bool
-    ensures { λ r. ⌜ r ≡ aPoint n limit (now (z .entry)) ⌝ }
+    ensures { λ r. ⌜ r ≡ manyWithin n limit (now (z .entry)) ⌝ }
 {
     z.len() == n && all_within(limit, z)
 }

@@ -8,7 +8,8 @@ ghost use Rattle.std.specs.Options.{Cases};
 ghost use Rattle.duality.specs.Lists.{places};
 ghost use Rattle.duality.specs.Problem.{rowAt, cost as costOf};
 ghost use Rattle.job.specs.Numbers.{problemOf};
-ghost use Rattle.job.specs.Points.{aPoint, answer, gradient as gradientOf, Cost-change};
+ghost use Rattle.job.specs.Points.{gradient as gradientOf, Cost-change};
+ghost use Rattle.duality.specs.Tests.{manyWithin, answer};
 ghost use Rattle.job.specs.Rows.{excess as excessOf, outside as outsideOf, Met-inside};
 use crate::checks::PULL_LIMIT;
 use crate::checks::ROUNDED_LIMIT;
@@ -42,7 +43,7 @@ pub(crate) fn with_price(sum: i64, price: i64) -> i64
 impl Job {
     pub(crate) fn row_at(&self, i: usize, z: &[i64]) -> i64
         requires row { ⌜ i < now self .rows ⌝ }
-        requires point { ⌜ aPoint (now self .ropes) 1073741824 (now z) ≡ true ⌝ }
+        requires point { ⌜ manyWithin (now self .ropes) 1073741824 (now z) ≡ true ⌝ }
         ensures { λ r. ⌜ r ≡ rowAt (problemOf (now (self .entry))) (places (now (z .entry))) i ⌝ }
     {
         strided_dot(&self.a, i, self.rows, z)
@@ -50,7 +51,7 @@ impl Job {
 
     /// Row i's sum at z; nothing without such a row, or where z has the wrong length or a number beyond ±1,073,741,824.
     pub fn row_sum(&self, i: usize, z: &[i64]) -> Option<i64>
-        ensures { λ r. ⌜ r ≡ answer (ltb i (now (self .entry) .rows) && aPoint (now (self .entry) .ropes) 1073741824 (now (z .entry)))
+        ensures { λ r. ⌜ r ≡ answer (ltb i (now (self .entry) .rows) && manyWithin (now (self .entry) .ropes) 1073741824 (now (z .entry)))
             (rowAt (problemOf (now (self .entry))) (places (now (z .entry))) i) ⌝ }
     {
         if i < self.rows && is_point(self.ropes, ROUNDED_LIMIT, z) {
@@ -64,7 +65,7 @@ impl Job {
     ///
     /// Nothing without such a rope, or where z is no point within ±32,768.
     pub fn gradient(&self, j: usize, z: &[i64]) -> Option<i64>
-        ensures value { λ r. ⌜ r ≡ answer (ltb j (now (self .entry) .ropes) && aPoint (now (self .entry) .ropes) 32768 (now (z .entry)))
+        ensures value { λ r. ⌜ r ≡ answer (ltb j (now (self .entry) .ropes) && manyWithin (now (self .entry) .ropes) 32768 (now (z .entry)))
             (gradientOf (problemOf (now (self .entry))) (places (now (z .entry))) j) ⌝ }
         ensures law { λ r. ⌜ Cases r (Unit {0}) (λ g. Cost-change (problemOf (now (self .entry))) (places (now (z .entry))) j g) ⌝ }
     {
@@ -79,7 +80,7 @@ impl Job {
 
     /// The cost of z; nothing where z is no point within ±32,768.
     pub fn cost(&self, z: &[i64]) -> Option<i64>
-        ensures { λ r. ⌜ r ≡ answer (aPoint (now (self .entry) .ropes) 32768 (now (z .entry))) (costOf (problemOf (now (self .entry))) (places (now (z .entry)))) ⌝ }
+        ensures { λ r. ⌜ r ≡ answer (manyWithin (now (self .entry) .ropes) 32768 (now (z .entry))) (costOf (problemOf (now (self .entry))) (places (now (z .entry)))) ⌝ }
     {
         if !is_point(self.ropes, PULL_LIMIT, z) {
             return None;
@@ -94,7 +95,7 @@ impl Job {
 
     /// The ticks that z lies outside all rows, summed: 0 exactly if it meets every row. Nothing where z is no point within ±32,768.
     pub fn outside(&self, z: &[i64]) -> Option<i64>
-        ensures value { λ r. ⌜ r ≡ answer (aPoint (now (self .entry) .ropes) 32768 (now (z .entry))) (outsideOf (problemOf (now (self .entry))) (places (now (z .entry)))) ⌝ }
+        ensures value { λ r. ⌜ r ≡ answer (manyWithin (now (self .entry) .ropes) 32768 (now (z .entry))) (outsideOf (problemOf (now (self .entry))) (places (now (z .entry)))) ⌝ }
         ensures met { λ r. ⌜ Cases r (Unit {0}) (λ o. Met-inside (problemOf (now (self .entry))) (places (now (z .entry))) o) ⌝ }
     {
         if !is_point(self.ropes, PULL_LIMIT, z) {

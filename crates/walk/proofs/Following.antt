@@ -22,7 +22,8 @@ use Rattle.duality.proofs.Shifts.{Shift, dot-shift}
 use Rattle.duality.proofs.Sums.{∑-cong}
 use Rattle.job.specs.Bounds.{In-bounds}
 use Rattle.job.specs.Numbers.{problemOf}
-use Rattle.job.specs.Points.{aPoint, gradient}
+use Rattle.job.specs.Points.{gradient}
+use Rattle.duality.specs.Tests.{manyWithin}
 use Rattle.job.specs.Rows.{excess, outside}
 use Rattle.duality.specs.Tests.{within, allWithin}
 use Rattle.job.specs.declared.numbers.Job.{Job}
@@ -127,7 +128,7 @@ shifted-is j s k d e o xs ys us vs fo ed ex lx rx eu lu ru eo =
 pub shifted-by : (j : Job) (s s′ : Running) (k : ℕ) (d e : ℤ) → d ≡ e → Shifted j s s′ k d → Shifted j s s′ k e
 shifted-by j s s′ k d e eq h = subst (λ (v : ℤ). Shifted j s s′ k v) eq h
 
-pub a-point : (j : Job) (z : List ℤ) → In-bounds j z → aPoint (j .ropes) 32768 z ≡ true
+pub a-point : (j : Job) (z : List ℤ) → In-bounds j z → manyWithin (j .ropes) 32768 z ≡ true
 a-point j z h =
     and-from (eqb (length z) (j .ropes)) (allWithin 32768 z) (eq-eqb _ _ (h .long))
     (all-from (λ k. within 32768 (places z k)) (length z) (λ k _. le-leb _ _ (point-small j z h k)))

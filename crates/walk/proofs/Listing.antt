@@ -14,7 +14,7 @@ use Rattle.std.proofs.shelf.Lists.{length-push, getD-push, getD-append-left}
 use Rattle.std.proofs.shelf.Tests.{cases-lt, cond-true}
 use Rattle.duality.specs.Lists.{places}
 use Rattle.duality.specs.Sums.{Vector}
-use Rattle.job.specs.Points.{answer}
+use Rattle.duality.specs.Tests.{answer}
 use Rattle.walk.specs.Running.{Lists}
 
 pub lists-none : (xs : List ℤ) (v : Vector) → xs ≡ [] → Lists 0 xs v

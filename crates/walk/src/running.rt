@@ -9,7 +9,8 @@ ghost use Rattle.std.specs.Vec.{made};
 ghost use Rattle.duality.specs.Lists.{places};
 ghost use Rattle.duality.specs.Problem.{rowAt};
 ghost use Rattle.job.specs.Numbers.{problemOf};
-ghost use Rattle.job.specs.Points.{aPoint, gradient as gradientOf};
+ghost use Rattle.job.specs.Points.{gradient as gradientOf};
+ghost use Rattle.duality.specs.Tests.{manyWithin};
 ghost use Rattle.job.specs.Rows.{excess as excessOf};
 ghost use Rattle.walk.specs.Lowering.{lower as lowerOf};
 ghost use Rattle.walk.specs.Running.{Lists, Tracks, Tame, outsideAfter, gainOf, looksLower, Raised, Shifted};
@@ -100,7 +101,7 @@ fn shift_slopes(slopes: &mut [i64], job: &Job, k: usize, d: i64)
 
 /// The row sums at a point.
 fn sums_at(heap: Global, job: &Job, z: &[i64]) -> Result<Vec<i64>, AllocError>
-    requires { ⌜ aPoint (now job .ropes) 32768 (now z) ≡ true ⌝ }
+    requires { ⌜ manyWithin (now job .ropes) 32768 (now z) ≡ true ⌝ }
     ensures { λ r. ⌜ made r (λ v. Lists (now (job .entry) .rows) (vec-items v) (rowAt (problemOf (now (job .entry))) (places (now (z .entry))))) ⌝ }
 {
     let mut sums = Vec::with_capacity(heap, job.rows)?;
@@ -112,7 +113,7 @@ fn sums_at(heap: Global, job: &Job, z: &[i64]) -> Result<Vec<i64>, AllocError>
 
 /// The gradient at a point.
 fn slopes_at(heap: Global, job: &Job, z: &[i64]) -> Result<Vec<i64>, AllocError>
-    requires { ⌜ aPoint (now job .ropes) 32768 (now z) ≡ true ⌝ }
+    requires { ⌜ manyWithin (now job .ropes) 32768 (now z) ≡ true ⌝ }
     ensures { λ r. ⌜ made r (λ v. Lists (now (job .entry) .ropes) (vec-items v) (gradientOf (problemOf (now (job .entry))) (places (now (z .entry))))) ⌝ }
 {
     let mut slopes = Vec::with_capacity(heap, job.ropes)?;
@@ -125,7 +126,7 @@ fn slopes_at(heap: Global, job: &Job, z: &[i64]) -> Result<Vec<i64>, AllocError>
 impl Running {
     /// The running sums of a point.
     pub(crate) fn start(heap: Global, job: &Job, z: &[i64]) -> Result<Running, AllocError>
-        requires { ⌜ aPoint (now job .ropes) 32768 (now z) ≡ true ⌝ }
+        requires { ⌜ manyWithin (now job .ropes) 32768 (now z) ≡ true ⌝ }
         ensures { λ r. ⌜ made r (λ s. Tracks (now (job .entry)) (now (z .entry)) s) ⌝ }
     {
         let sums = sums_at(heap, job, z)?;

@@ -12,7 +12,7 @@ use Rattle.std.proofs.shelf.Tests.{and-from}
 use Rattle.duality.specs.Lists.{places}
 use Rattle.duality.specs.Problem.{rowAt}
 use Rattle.job.specs.Numbers.{problemOf}
-use Rattle.job.specs.Points.{aPoint}
+use Rattle.duality.specs.Tests.{manyWithin}
 use Rattle.exchange.proofs.Choosing.{answer-is, row-small}
 use Rattle.exchange.proofs.breaches.row_value.Needs as need
 
@@ -21,6 +21,6 @@ returns-in-Some c =
     let j = c .args .job .now in
     let z = c .args .pulls .now in
     let f : SFits w64 (c .in-Some .s) = search needs in
-    let b : (ltb (c .args .i) (j .rows) && aPoint (j .ropes) 1073741824 z) ≡ true = and-from _ _ (lt-ltb _ _ (c .pre .row)) (c .pre .point) in
+    let b : (ltb (c .args .i) (j .rows) && manyWithin (j .ropes) 1073741824 z) ≡ true = and-from _ _ (lt-ltb _ _ (c .pre .row)) (c .pre .point) in
     let e = toZ-ofZ w64 _ f ∙ answer-is _ (c .in-Some .s) (rowAt (problemOf j) (places z) (c .args .i)) (c .in-Some .ensures tt) b in
     record { value = e; small = omega (arith, ap natAbs e, row-small j z (c .args .i) (c .pre .point) (c .pre .row)) }

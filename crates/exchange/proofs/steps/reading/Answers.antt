@@ -7,7 +7,7 @@ use lib.IntN.{ℤ}
 use lib.ListN.{length, take, drop}
 use Rattle.std.proofs.shelf.Counted.{length-map-counting}
 use Rattle.job.specs.Numbers.{problemOf}
-use Rattle.job.specs.Points.{aPoint}
+use Rattle.duality.specs.Tests.{manyWithin}
 use Rattle.exchange.specs.Rounding.{pulled, pressed}
 use Rattle.exchange.specs.Choice.{chosen}
 use Rattle.exchange.specs.Offers.{pullsOf, pressuresOf, multipliers, filled}
@@ -21,7 +21,7 @@ choose-choice-requires c κs =
     let n = j .ropes in
     let m = length (c .args .members .now) in
     let h : n + m ≤ length X = omega (arith, j .some .1) in
-    let P : List ℤ → Type 0 = λ z. aPoint n 1073741824 z ≡ true in
+    let P : List ℤ → Type 0 = λ z. manyWithin n 1073741824 z ≡ true in
     let l = pulls-long n m X h in
     let k = pressures-long n m X h in
     record {
