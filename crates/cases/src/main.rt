@@ -5,6 +5,7 @@ use card::CardTableTable;
 use card::Contents;
 use card::Fault;
 use card::Sizes;
+use card::check_card;
 use evaluate::Finding;
 use evaluate::Terms;
 use evaluate::cost;
@@ -349,6 +350,16 @@ fn evaluations(rt: &LibcRuntime, card: &[u8]) -> Result<(), AnyError> {
     Ok(())
 }
 
+/// What is said of so many bytes that are all 0.
+fn zero_bytes(rt: &LibcRuntime, len: usize) -> Result<(), AnyError> {
+    let bytes = vec![in rt.alloc(); 0u8; len]?;
+    match check_card(bytes.as_slice()) {
+        Ok(_) => println!(rt, "a card")?,
+        Err(fault) => print_fault(rt, &fault)?,
+    }
+    Ok(())
+}
+
 fn run(rt: &LibcRuntime) -> Result<(), AnyError> {
     let Some(contents) = two_ropes(rt.alloc())? else {
         return Err("the two-rope job has other counts".into());
@@ -364,6 +375,8 @@ fn run(rt: &LibcRuntime) -> Result<(), AnyError> {
         }
         Err(fault) => print_fault(rt, &fault)?,
     }
+    zero_bytes(rt, 700)?;
+    zero_bytes(rt, 512)?;
     sizes(rt)?;
     blank_throughout(rt)?;
     layers(rt, out.as_slice())?;
