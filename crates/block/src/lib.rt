@@ -1,4 +1,5 @@
 //! The blocks that a job card is made of: 512 bytes with a letter, a block number, 126 signed numbers and a check sum.
+#![tactic(auto)]
 
 mod block;
 mod checks;

@@ -1,4 +1,5 @@
 //! The job card: its first fault, and its writer.
+#![tactic(auto)]
 
 mod checks;
 mod contents;

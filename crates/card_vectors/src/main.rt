@@ -3,6 +3,7 @@
 //! Standard input has a count of base cards, each as its length and its bytes, and then the cases until the end:
 //! the base card, a new length (0 past the base card's end), a count of changed bytes, and each change as a place and a byte.
 //! Lengths and places have two bytes, the low one first; the rest has one.
+#![tactic(auto)]
 
 ghost use Rattle.std.specs.Prelude.{◌≤◌, length};
 

@@ -1,5 +1,6 @@
 //! What is refused, with its number, places and layer, and what just passes, through public calls.
 //! The stored output was written by hand from the rules.
+#![tactic(auto)]
 
 use block::Block;
 use calls::{Amendment, Verdict};

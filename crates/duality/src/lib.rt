@@ -1,6 +1,8 @@
 //! Why a floor is a floor, and why a proof of none is a proof.
 //!
 //! Each function does nothing and promises a theorem on whole numbers, which callers' proofs can use. The statements stand in specs/.
+#![tactic(auto)]
+
 ghost use Rattle.duality.specs.Convex.{SlipSound};
 ghost use Rattle.duality.specs.Floor.{FloorSound, SlipFloor, GapSound, GapClosed};
 ghost use Rattle.duality.specs.Conditions.{ConditionsTight};

@@ -1,6 +1,8 @@
 //! The exchange: a working set of rows and bounds, changed one member at a time, proposes points and multipliers.
 //!
 //! It computes in f64 and settles nothing: what it offers is judged in whole numbers by others.
+#![tactic(auto)]
+
 mod breaches;
 mod choices;
 mod exchanges;

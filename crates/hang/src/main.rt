@@ -1,4 +1,5 @@
 //! Reads a job card on standard input, solves its job and prints what the plan shows then, or why the card is refused.
+#![tactic(auto)]
 
 ghost use Rattle.std.specs.Prelude.{◌≤◌, length, IfOk};
 ghost use Rattle.hang.specs.Solved.{Solved};

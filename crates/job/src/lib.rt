@@ -2,6 +2,8 @@
 //!
 //! A `Job` carries its limits with it, so that whoever holds one can compute in 64 bits and never overflow.
 //! What its methods answer is defined by the problem that it stands for, `problemOf` in specs/.
+#![tactic(auto)]
+
 mod bounds;
 mod checks;
 mod judges;

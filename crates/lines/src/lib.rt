@@ -1,6 +1,8 @@
 //! What the program shows of a plan, as lines of text, byte for byte, in a list of bytes that the caller lends.
 //!
 //! specs/ has the text of a sheet and of a refusal; docs/TEXT.md has it in words.
+#![tactic(auto)]
+
 mod checks;
 mod digits;
 mod puts;

@@ -1,4 +1,5 @@
 //! What a plan refuses, and the first fault of what a plan is to be opened from.
+#![tactic(auto)]
 
 mod listed;
 mod lists;

@@ -1,6 +1,8 @@
 //! A plan: a problem that is known to be sound, and the best that has been offered for it so far.
 //!
 //! Anyone may offer points, pairs and proofs of none. A plan judges them in whole numbers, keeps the best, and shows what they prove.
+#![tactic(auto)]
+
 mod amends;
 mod evaluates;
 mod offers;

@@ -1,4 +1,6 @@
 //! Plans and refusals as text, in a list of bytes that the caller lends.
+#![tactic(auto)]
+
 mod plans;
 mod refusals;
 mod room;

@@ -1,4 +1,6 @@
 //! Why a plan refuses an offer or an amendment: the first reason, over tables of any kind.
+#![tactic(auto)]
+
 mod amends;
 mod refuses;
 

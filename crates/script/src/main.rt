@@ -1,4 +1,5 @@
 //! A script of calls on a small job, run through `session`. The stored output was written by hand from the rules.
+#![tactic(auto)]
 
 use calls::{Amendment, Dropped, Found, Report, Shown, Verdict};
 use exchange::End as ExchangeEnd;

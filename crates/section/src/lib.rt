@@ -1,4 +1,5 @@
 //! The sections of a job card: which there are, where each lies for a job's sizes, and its numbers, read in place.
+#![tactic(auto)]
 
 mod kind;
 mod layout;

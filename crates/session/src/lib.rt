@@ -1,4 +1,6 @@
 //! Whole runs of calls on a plan, and the law that their answers keep.
+#![tactic(auto)]
+
 mod asks;
 mod runs;
 mod sessions;

@@ -1,4 +1,5 @@
 //! Jobs to cards, and cards to jobs.
+#![tactic(auto)]
 
 mod job;
 mod loads;

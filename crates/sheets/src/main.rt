@@ -2,6 +2,7 @@
 //!
 //! A card of standard input is its length in two bytes, the low one first, and its bytes.
 //! After the sheet of a job comes a line with the 64 bits of its smallest pivot.
+#![tactic(auto)]
 
 ghost use Rattle.std.specs.Prelude.{◌≤◌, length, IfOk};
 

@@ -1,4 +1,6 @@
 //! Tables of whole numbers: what a table is asked, a table by records, and layers over any kind of table.
+#![tactic(auto)]
+
 mod interface;
 mod layers;
 mod lent;

@@ -1,6 +1,8 @@
 //! Cases that were tried by hand, as one table and one theorem.
 //!
 //! The table stands in specs/Cases.antt: a job, the calls that are made on it, and what they answer.
+#![tactic(auto)]
+
 ghost use Rattle.std.specs.Prelude.{◌≡◌, length};
 ghost use Rattle.tried.specs.Cases.{cases, AllHold};
 

@@ -5,6 +5,7 @@
 //! One that begins with 1 is a system: the number of unknowns, and then line by line its coefficients and the right side,
 //! each float as m and e for m times 2 to the e. Floats are answered by their 64 bits.
 //! One that begins with 2 is an exchange, written as a walk is, with steps in the place of moves.
+#![tactic(auto)]
 
 use elimination::{Solution, nearest, solve};
 use exchange::{Exchange, Offer, Report, Step, end_after};

@@ -2,6 +2,8 @@
 //!
 //! A move lowers if fewer ticks lie outside the rows, or as many at a lower cost. `walk` is the call; specs/ says what it does, step by step
 //! and as a law of whole walks.
+#![tactic(auto)]
+
 mod ends;
 mod guard;
 mod moves;

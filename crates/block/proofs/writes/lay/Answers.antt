@@ -7,7 +7,7 @@ returns c =
     record {
       value =
           all_written c.args.out.now c.args.letter c.args.number (take 126 c.args.numbers.now) (omega arith) (length_part c.args.numbers.now)
-          c.put.ensures c.to-le-bytes.ensures c.put-2.ensures c.put-numbers.ensures.value c.put-3.ensures
-          c.sum-of-sum.ensures c.to-le-bytes-2.ensures c.put-4.ensures;
-      fits = c.put-numbers.ensures.fits;
+          c.put.ensures c.to_le_bytes.ensures c.put-2.ensures c.put_numbers.ensures.value c.put-3.ensures
+          c.sum_of-sum.ensures c.to_le_bytes-2.ensures c.put-4.ensures;
+      fits = c.put_numbers.ensures.fits;
     }

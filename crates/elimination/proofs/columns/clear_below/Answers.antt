@@ -15,10 +15,10 @@ returns c =
     let w = c.args.width in
     let k = c.args.k in
     let ls = c.args.lines.now in
-    let us = c.clear-lines.new.lines in
+    let us = c.clear_lines.new.lines in
     let l = length-take-le w (get_or ls k []) (omega (arith, c.told-lines k c.requires.line)) in
     let line = get_or ls k [] in
     let P : ℕ → Type 0 = λ v. seen (length (take v line)) us ≡ map (cleared k (take v line)) (seen (length (take v line)) (take (length ls - (k + 1)) (drop (k + 1) ls))) in
-    let e = subst P (sub-zero w) c.clear-lines.ensures in
+    let e = subst P (sub-zero w) c.clear_lines.ensures in
     let f = rw (l, take_rest ls (k + 1)) at e in
     ap (seen w) (put_rest (k + 1) ls us) ∙ below_all w k ls us (take w (get_or ls k [])) [] c.requires.line refl f

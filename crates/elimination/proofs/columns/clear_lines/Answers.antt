@@ -23,21 +23,21 @@ clear-entry-requires c =
 
 pub loop-line-preserved : goal.loop-line-preserved
 loop-line-preserved c =
-    let w = length c.args.pivot-line.now in
-    let g = cleared c.args.k c.args.pivot-line.now in
+    let w = length c.args.pivot_line.now in
+    let g = cleared c.args.k c.args.pivot_line.now in
     let vs = c.loop-line.lines in
     let i = c.loop-line.line-index in
-    let ys = c.clear-entry.new.line in
+    let ys = c.clear_entry.new.line in
     let n = length_seen w c.args.lines.now in
-    let l = here_long c.args.k c.loop-line.line-index c.args.pivot-line.now c.args.lines.now c.loop-line.lines (omega arith) (omega arith)
+    let l = here_long c.args.k c.loop-line.line-index c.args.pivot_line.now c.args.lines.now c.loop-line.lines (omega arith) (omega arith)
     (omega (arith, c.told-lines c.loop-line.line-index c.loop-line-test.true)) c.loop-line.invariant in
-    let q : ys ≡ g (take w (get_or vs i [])) = rw sub-zero at c.clear-entry.ensures in
-    let m : length ys ≡ w = ap length q ∙ length_cleared c.args.k c.args.pivot-line.now (take w (get_or vs i [])) ∙ l in
+    let q : ys ≡ g (take w (get_or vs i [])) = rw sub-zero at c.clear_entry.ensures in
+    let m : length ys ≡ w = ap length q ∙ length_cleared c.args.k c.args.pivot_line.now (take w (get_or vs i [])) ∙ l in
     let t : take w (ys ++ post_of 0 (w - 0) (get_or vs i [])) ≡ g (take w (get_or vs i [])) = take_at ys (post_of 0 (w - 0) (get_or vs i [])) w m ∙ q in
     seen_more g w (seen w c.args.lines.now) vs i [] (ys ++ post_of 0 (w - 0) (get_or vs i [])) (omega arith) (omega arith) c.loop-line.invariant t
 
 pub returns : goal.returns
 returns c =
-    let w = length c.args.pivot-line.now in
+    let w = length c.args.pivot_line.now in
     let n = length_seen w c.args.lines.now in
-    c.loop-line.invariant ∙ lines_all (cleared c.args.k c.args.pivot-line.now) (seen w c.args.lines.now) c.loop-line.line-index (omega arith)
+    c.loop-line.invariant ∙ lines_all (cleared c.args.k c.args.pivot_line.now) (seen w c.args.lines.now) c.loop-line.line-index (omega arith)

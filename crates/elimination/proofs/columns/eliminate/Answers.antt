@@ -21,7 +21,7 @@ loop-k-preserved c =
       | then-size-smallest w ↦ w.smallest-is ∙ rw w.if-size-smallest.true
       | else-size-smallest w ↦ w.smallest-is ∙ rw w.if-size-smallest.false
     ] in
-    columns_some n c.loop-k.k c.loop-k.smallest c.in-Some.size c.if-size-smallest.smallest (seen (n + 1) c.loop-k.lines) (seen (n + 1) c.eliminate-column.new.lines)
+    columns_some n c.loop-k.k c.loop-k.smallest c.in-Some.size c.if-size-smallest.smallest (seen (n + 1) c.loop-k.lines) (seen (n + 1) c.eliminate_column.new.lines)
     c.loop-k-test.true c.in-Some.ensures u
     ∙ c.loop-k.invariant
 

@@ -13,7 +13,7 @@ returns c =
     let w = c.args.width in
     let ls = c.args.lines.now in
     let k = c.args.k in
-    let p = c.pick-pivot-pivot.result.place in
-    let e = ap (seen w) c.swap.ensures.after ∙ seen_exchanged w ls k p c.requires.line c.pick-pivot-pivot.ensures.within in
-    done_some k p c.pick-pivot-pivot.result.size (seen w ls) (seen w c.clear-below.new.lines) c.pick-pivot-pivot.ensures.value (sym c.if-not-can-be-pivot.ensures)
-    (c.clear-below.ensures ∙ ap (cleared_below k) e)
+    let p = c.pick_pivot-pivot.result.place in
+    let e = ap (seen w) c.swap.ensures.after ∙ seen_exchanged w ls k p c.requires.line c.pick_pivot-pivot.ensures.within in
+    done_some k p c.pick_pivot-pivot.result.size (seen w ls) (seen w c.clear_below.new.lines) c.pick_pivot-pivot.ensures.value (sym c.if-not-can_be_pivot.ensures)
+    (c.clear_below.ensures ∙ ap (cleared_below k) e)

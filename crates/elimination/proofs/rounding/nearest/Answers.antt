@@ -7,8 +7,8 @@ use Rattle.elimination.proofs.rounding.nearest.Goals as goal
 pub returns : goal.returns
 unfolding nearest
 returns c =
-    let e : c.saturating-f64-to-i64.result ≡ nearest c.args.x = cc in
+    let e : c.saturating_f64_to_i64.result ≡ nearest c.args.x = cc in
     record {
       value = search (rules, e);
-      law = λ m. let f : c.saturating-f64-to-i64.result ≡ nearest_whole c.args.x = e ∙ nearest_law c.args.x m in search (rules, f);
+      law = λ m. let f : c.saturating_f64_to_i64.result ≡ nearest_whole c.args.x = e ∙ nearest_law c.args.x m in search (rules, f);
     }

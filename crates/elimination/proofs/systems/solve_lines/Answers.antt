@@ -10,8 +10,8 @@ returns-then-eliminate c =
     let ms = c.eliminate.new.lines in
     let n = length ls in
     let l : length ms ≡ n = c.eliminate.auto.lines in
-    found_whole n c.args.smallest.now c.eliminate.new.smallest (seen (n + 1) ls) (seen (n + 1) ms) (cond c.back-substitute.result (Some c.back-substitute.new.unknowns) None)
-    (sym (length_seen (n + 1) ls)) c.if-eliminate.ensures (c.back-substitute.ensures ∙ ap (λ (k : ℕ). unknowns_of k 0 (seen (k + 1) ms)) l)
+    found_whole n c.args.smallest.now c.eliminate.new.smallest (seen (n + 1) ls) (seen (n + 1) ms) (cond c.back_substitute.result (Some c.back_substitute.new.unknowns) None)
+    (sym (length_seen (n + 1) ls)) c.if-eliminate.ensures (c.back_substitute.ensures ∙ ap (λ (k : ℕ). unknowns_of k 0 (seen (k + 1) ms)) l)
 
 pub returns-else-eliminate : goal.returns-else-eliminate
 returns-else-eliminate c =

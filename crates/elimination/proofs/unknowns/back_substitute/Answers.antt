@@ -37,7 +37,7 @@ loop-k-preserved c =
     let P : ℕ → Type 0 = λ k. unknowns_of (length vs) k (drop k ls) ≡ Some (drop k us) in
     let i = subst P e c.loop-k.invariant.0 in
     let x = unknown_is (length vs) j (take (w - 0) (get_or vs j [])) ls us c.unknown-x.result (line_is w j vs t) (line_long w j vs t (omega (arith, c.told-lines j t))) c.unknown-x.ensures in (
-      found_here (length vs) j ls us c.unknown-x.result (omega arith) (omega (arith, c.loop-k.invariant.1)) i x (sym c.if-not-is-inside.ensures),
+      found_here (length vs) j ls us c.unknown-x.result (omega arith) (omega (arith, c.loop-k.invariant.1)) i x (sym c.if-not-is_inside.ensures),
       length-set us j c.unknown-x.result ∙ c.loop-k.invariant.1,
     )
 

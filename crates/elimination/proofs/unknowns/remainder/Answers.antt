@@ -24,10 +24,10 @@ ended s t b h = go h.0 h.1 h.2
 
 pub loop-a-init : goal.loop-a-init
 loop-a-init c =
-    let h = c.into-iter-a-iterator.ensures.into-iter-gives in
+    let h = c.into_iter-a-iterator.ensures.into_iter_gives in
     let f = ap (λ z. iter_rest (zip_first z)) h ∙ ap iter_rest c.zip-a-items.ensures.first ∙ c.iter.ensures.rest in
     let g = ap (λ z. iter_rest (zip_second z)) h ∙ c.zip-a-items.ensures.second.0 in
-    ap (λ z. rest c.args.right z (iter_rest (zip_second c.into-iter-a-iterator.result))) f ∙ ap (λ z. rest c.args.right c.args.coefficients.now z) g
+    ap (λ z. rest c.args.right z (iter_rest (zip_second c.into_iter-a-iterator.result))) f ∙ ap (λ z. rest c.args.right c.args.coefficients.now z) g
 
 pub loop-a-preserved : goal.loop-a-preserved
 loop-a-preserved c =

@@ -8,8 +8,8 @@ pub returns : goal.returns
 returns c =
     let block = c.args.self.now.bytes in
     let long : length block ≡ 512 = sym (ap length c.bytes.ensures.value) ∙ c.bytes.ensures.len in
-    let value : c.judge-spare.result ≡ spare_check block c.args.number c.args.used
-    = c.judge-spare.ensures ∙ ap (λ b. spare_check b c.args.number c.args.used) c.bytes.ensures.value in
+    let value : c.judge_spare.result ≡ spare_check block c.args.number c.args.used
+    = c.judge_spare.ensures ∙ ap (λ b. spare_check b c.args.number c.args.used) c.bytes.ensures.value in
     record {
       value = value;
       first = subst (λ (v : Verdict). FirstSpare block c.args.number c.args.used v) (sym value) (spare_law block c.args.number c.args.used long);

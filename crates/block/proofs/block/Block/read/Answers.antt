@@ -8,5 +8,5 @@ returns c =
     let at : ℕ = c.args.number * 512 in
     let cut : at + 512 - at ≡ 512 = omega arith in
     let room : leb (at + 512) (length c.args.card.now) ≡ true = le-leb (at + 512) (length c.args.card.now) (omega arith) in
-    ap Some (c.copy-from-slice.ensures.after ∙ ap (λ n. take n (drop at c.args.card.now)) cut)
+    ap Some (c.copy_from_slice.ensures.after ∙ ap (λ n. take n (drop at c.args.card.now)) cut)
     ∙ sym (ap (λ t. cond t (Some (block_at c.args.card.now c.args.number)) None) room)
