@@ -4,8 +4,8 @@ use Rattle.block.specs.Blocks.{weighed}
 use Rattle.block.proofs.Weighing.{weighed_more}
 use Rattle.block.proofs.checks.sum_of.Goals as goal
 
-pub overflow-add-total-in-loop-k : goal.overflow-add-total-in-loop-k
-overflow-add-total-in-loop-k c =
+pub overflow_add-total-in-loop-k : goal.overflow_add-total-in-loop-k
+overflow_add-total-in-loop-k c =
     let small : get_or c.args.block.now c.loop-k.k 0 ≤ 255 = omega arith in
     omega (arith, mul-le (c.loop-k.k + 1) (get_or c.args.block.now c.loop-k.k 0) 510 255 (omega arith) small)
 

@@ -5,8 +5,8 @@ use Rattle.elimination.specs.Lines.{cleared, seen}
 use Rattle.elimination.proofs.Lines.{put_rest, below_all}
 use Rattle.elimination.proofs.columns.clear_below.Goals as goal
 
-pub clear-lines-requires : goal.clear-lines-requires
-clear-lines-requires c =
+pub clear_lines-requires : goal.clear_lines-requires
+clear_lines-requires c =
     let l = length-take-le c.args.width (get_or c.args.lines.now c.args.k []) (omega (arith, c.told-lines c.args.k c.requires.line)) in
     rw sub-zero (record { column = omega arith; width = omega arith })
 

@@ -15,9 +15,9 @@ here_long k i p es vs h n l e =
     let m = length_seen w es in
     ap length (seen_here (cleared k p) w (seen w es) vs i [] h (omega arith) e ∙ seen_at w es i [] [] (omega arith)) ∙ length-take-le w (get_or es i []) l
 
-pub clear-entry-requires : goal.clear-entry-requires
-clear-entry-requires c =
-    let l = here_long c.args.k c.loop-line.line-index c.args.pivot-line.now c.args.lines.now c.loop-line.lines (omega arith) (omega arith)
+pub clear_entry-requires : goal.clear_entry-requires
+clear_entry-requires c =
+    let l = here_long c.args.k c.loop-line.line-index c.args.pivot_line.now c.args.lines.now c.loop-line.lines (omega arith) (omega arith)
     (omega (arith, c.told-lines c.loop-line.line-index c.loop-line-test.true)) c.loop-line.invariant in
     rw sub-zero (record { same = l; column = omega arith })
 

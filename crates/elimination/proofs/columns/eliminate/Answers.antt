@@ -8,10 +8,10 @@ use Rattle.elimination.proofs.columns.eliminate.Goals.{then-size-smallest, else-
 pub loop-k-init : goal.loop-k-init
 loop-k-init c = rw sub-zero
 
-pub returns-in-default : goal.returns-in-default
-returns-in-default c =
+pub returns-in_default : goal.returns-in_default
+returns-in_default c =
     let n = length c.args.lines.now in
-    columns_none n c.loop-k.k c.loop-k.smallest (seen (n + 1) c.loop-k.lines) c.loop-k-test.true c.in-default.ensures ∙ c.loop-k.invariant
+    columns_none n c.loop-k.k c.loop-k.smallest (seen (n + 1) c.loop-k.lines) c.loop-k-test.true c.in_default.ensures ∙ c.loop-k.invariant
 
 pub loop-k-preserved : goal.loop-k-preserved
 loop-k-preserved c =

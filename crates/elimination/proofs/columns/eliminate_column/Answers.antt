@@ -3,10 +3,10 @@ use Rattle.elimination.specs.Lines.{seen, cleared_below}
 use Rattle.elimination.proofs.Steps.{seen_exchanged, done_some, done_none}
 use Rattle.elimination.proofs.columns.eliminate_column.Goals as goal
 
-pub returns-then-not-can-be-pivot : goal.returns-then-not-can-be-pivot
-returns-then-not-can-be-pivot c =
-    done_none c.args.k c.pick-pivot-pivot.result.place c.pick-pivot-pivot.result.size (seen c.args.width c.args.lines.now) c.pick-pivot-pivot.ensures.value
-    (sym c.if-not-can-be-pivot.ensures)
+pub returns-then-not-can_be_pivot : goal.returns-then-not-can_be_pivot
+returns-then-not-can_be_pivot c =
+    done_none c.args.k c.pick_pivot-pivot.result.place c.pick_pivot-pivot.result.size (seen c.args.width c.args.lines.now) c.pick_pivot-pivot.ensures.value
+    (sym c.if-not-can_be_pivot.ensures)
 
 pub returns : goal.returns
 returns c =

@@ -57,8 +57,8 @@ returns c =
     let P : ℕ → Type 0 = λ k. unknowns_of (length vs) k (drop k (seen (length vs + 1) vs)) ≡ Some (drop k c.loop-k.unknowns) in
     sym (subst P e c.loop-k.invariant.0)
 
-pub returns-then-not-is-inside : goal.returns-then-not-is-inside
-returns-then-not-is-inside c =
+pub returns-then-not-is_inside : goal.returns-then-not-is_inside
+returns-then-not-is_inside c =
     let vs = c.args.lines.now in
     let w = length vs + 1 in
     let ls = seen w vs in
@@ -70,4 +70,4 @@ returns-then-not-is-inside c =
     let P : ℕ → Type 0 = λ k. unknowns_of (length vs) k (drop k ls) ≡ Some (drop k us) in
     let i = subst P e c.loop-k.invariant.0 in
     let x = unknown_is (length vs) j (take (w - 0) (get_or vs j [])) ls us c.unknown-x.result (line_is w j vs t) (line_long w j vs t (omega (arith, c.told-lines j t))) c.unknown-x.ensures in
-    stuck_up (length vs) j ls (omega arith) (stuck_here (length vs) j ls (drop (j + 1) us) (omega arith) i (ap inside (sym x) ∙ sym c.if-not-is-inside.ensures))
+    stuck_up (length vs) j ls (omega arith) (stuck_here (length vs) j ls (drop (j + 1) us) (omega arith) i (ap inside (sym x) ∙ sym c.if-not-is_inside.ensures))

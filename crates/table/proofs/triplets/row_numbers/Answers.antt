@@ -9,7 +9,7 @@ loop-k-init c =
 
 pub loop-k-preserved : goal.loop-k-preserved
 loop-k-preserved c = (
-  c.put-into.auto.row ∙ c.loop-k.invariant.0,
-  row_more c.args.records.now c.loop-k.k (record { row = pos 0; column = pos 0; number = pos 0 }) c.args.i c.loop-k.row c.put-into.new.row
-      c.loop-k-test.true c.loop-k.auto.k c.loop-k.invariant.0 c.loop-k.invariant.1 c.put-into.ensures,
+  c.put_into.auto.row ∙ c.loop-k.invariant.0,
+  row_more c.args.records.now c.loop-k.k (record { row = pos 0; column = pos 0; number = pos 0 }) c.args.i c.loop-k.row c.put_into.new.row
+      c.loop-k-test.true c.loop-k.auto.k c.loop-k.invariant.0 c.loop-k.invariant.1 c.put_into.ensures,
 )

@@ -8,52 +8,52 @@ use Rattle.table.proofs.Products.{product_none, product_lawful, multiplies_produ
 use Rattle.table.proofs.Integers.{abs_held, mul_held}
 use Rattle.table.proofs.interface.Table.product.Goals as goal
 
-pub returns-then-unsigned-abs-gt-FACTOR-LIMIT : goal.returns-then-unsigned-abs-gt-FACTOR-LIMIT
-returns-then-unsigned-abs-gt-FACTOR-LIMIT g c =
+pub returns-then-unsigned_abs-gt-FACTOR_LIMIT : goal.returns-then-unsigned_abs-gt-FACTOR_LIMIT
+returns-then-unsigned_abs-gt-FACTOR_LIMIT g c =
     let grid = g.Self.Table.meant c.args.self.now in
     let fx : SFits w64 (get_or c.args.xs.now c.loop-j.j (pos 0)) = search rules in
-    let x : c.unsigned-abs.result ≡ nat_abs (get_or c.args.xs.now c.loop-j.j (pos 0)) = c.unsigned-abs.ensures.value ∙ ap nat_abs (to_z-of_z w64 _ fx) in
+    let x : c.unsigned_abs.result ≡ nat_abs (get_or c.args.xs.now c.loop-j.j (pos 0)) = c.unsigned_abs.ensures.value ∙ ap nat_abs (to_z-of_z w64 _ fx) in
     let e : None ≡ product_of grid c.args.i c.args.xs.now =
     sym (product_none grid c.args.i c.args.xs.now (λ s m. let l = m.long in omega (arith, m.near c.loop-j.j (omega arith)))) in
     let p = product_lawful grid c.args.i c.args.xs.now None e in
     record { value = e; bound = tt; exactly = p.1 }
 
-pub returns-in-err-number : goal.returns-in-err-number
-returns-in-err-number g c =
+pub returns-in_err-number : goal.returns-in_err-number
+returns-in_err-number g c =
     let grid = g.Self.Table.meant c.args.self.now in
     let none : product_of grid c.args.i c.args.xs.now ≡ None =
     product_none grid c.args.i c.args.xs.now (λ s m.
     let l = m.long in
-    none_not (place_of grid c.args.i c.loop-j.j) c.in-err-number.ensures.value (m.present c.loop-j.j (omega arith))) in
-    let e : c.from-residual.result ≡ product_of grid c.args.i c.args.xs.now = ◌∙◌ {b = None} c.from-residual.ensures (sym none) in
-    let p = product_lawful grid c.args.i c.args.xs.now c.from-residual.result e in
+    none_not (place_of grid c.args.i c.loop-j.j) c.in_err-number.ensures.value (m.present c.loop-j.j (omega arith))) in
+    let e : c.from_residual.result ≡ product_of grid c.args.i c.args.xs.now = ◌∙◌ {b = None} c.from_residual.ensures (sym none) in
+    let p = product_lawful grid c.args.i c.args.xs.now c.from_residual.result e in
     record { value = e; bound = p.0; exactly = p.1 }
 
-pub overflow-mul-sum : goal.overflow-mul-sum
-overflow-mul-sum g c =
-    let fn : SFits w64 c.in-ok-number.number = search rules in
+pub overflow_mul-sum : goal.overflow_mul-sum
+overflow_mul-sum g c =
+    let fn : SFits w64 c.in_ok-number.number = search rules in
     let fx : SFits w64 (get_or c.args.xs.now c.loop-j.j (pos 0)) = search rules in
-    let m = abs_held (get_or c.args.xs.now c.loop-j.j (pos 0)) _ 1073741824 fx c.unsigned-abs.ensures.value c.if-unsigned-abs-gt-FACTOR-LIMIT.false in
-    simp to_z-of_z (term_fits c.in-ok-number.number (get_or c.args.xs.now c.loop-j.j (pos 0)) c.in-ok-number.ensures.bound m)
+    let m = abs_held (get_or c.args.xs.now c.loop-j.j (pos 0)) _ 1073741824 fx c.unsigned_abs.ensures.value c.if-unsigned_abs-gt-FACTOR_LIMIT.false in
+    simp to_z-of_z (term_fits c.in_ok-number.number (get_or c.args.xs.now c.loop-j.j (pos 0)) c.in_ok-number.ensures.bound m)
 
-pub overflow-add-sum : goal.overflow-add-sum
-overflow-add-sum g c =
-    let fn : SFits w64 c.in-ok-number.number = search rules in
+pub overflow_add-sum : goal.overflow_add-sum
+overflow_add-sum g c =
+    let fn : SFits w64 c.in_ok-number.number = search rules in
     let fx : SFits w64 (get_or c.args.xs.now c.loop-j.j (pos 0)) = search rules in
-    let m = abs_held (get_or c.args.xs.now c.loop-j.j (pos 0)) _ 1073741824 fx c.unsigned-abs.ensures.value c.if-unsigned-abs-gt-FACTOR-LIMIT.false in
-    let f = term_fits c.in-ok-number.number (get_or c.args.xs.now c.loop-j.j (pos 0)) c.in-ok-number.ensures.bound m in
-    sum_fits (g.Self.Table.meant c.args.self.now) c.args.i c.loop-j.j c.args.xs.now _ _ c.in-ok-number.number (get_or c.args.xs.now c.loop-j.j (pos 0))
-    c.loop-j.invariant.0 (mul_held _ _ fn fx f) c.loop-j.invariant.2 (omega arith) c.in-ok-number.ensures.bound m
+    let m = abs_held (get_or c.args.xs.now c.loop-j.j (pos 0)) _ 1073741824 fx c.unsigned_abs.ensures.value c.if-unsigned_abs-gt-FACTOR_LIMIT.false in
+    let f = term_fits c.in_ok-number.number (get_or c.args.xs.now c.loop-j.j (pos 0)) c.in_ok-number.ensures.bound m in
+    sum_fits (g.Self.Table.meant c.args.self.now) c.args.i c.loop-j.j c.args.xs.now _ _ c.in_ok-number.number (get_or c.args.xs.now c.loop-j.j (pos 0))
+    c.loop-j.invariant.0 (mul_held _ _ fn fx f) c.loop-j.invariant.2 (omega arith) c.in_ok-number.ensures.bound m
 
 pub loop-j-preserved : goal.loop-j-preserved
 loop-j-preserved g c =
     let grid = g.Self.Table.meant c.args.self.now in
-    let fn : SFits w64 c.in-ok-number.number = search rules in
+    let fn : SFits w64 c.in_ok-number.number = search rules in
     let fx : SFits w64 (get_or c.args.xs.now c.loop-j.j (pos 0)) = search rules in
-    let m = abs_held (get_or c.args.xs.now c.loop-j.j (pos 0)) _ 1073741824 fx c.unsigned-abs.ensures.value c.if-unsigned-abs-gt-FACTOR-LIMIT.false in
-    let f = term_fits c.in-ok-number.number (get_or c.args.xs.now c.loop-j.j (pos 0)) c.in-ok-number.ensures.bound m in
-    let here = c.in-ok-number.ensures.value in (
-      to_z-of_z w64 _ (overflow-add-sum g c) ∙ sum_more grid c.args.i c.loop-j.j c.args.xs.now _ _ c.in-ok-number.number c.loop-j.invariant.0 (mul_held _ _ fn fx f) here,
+    let m = abs_held (get_or c.args.xs.now c.loop-j.j (pos 0)) _ 1073741824 fx c.unsigned_abs.ensures.value c.if-unsigned_abs-gt-FACTOR_LIMIT.false in
+    let f = term_fits c.in_ok-number.number (get_or c.args.xs.now c.loop-j.j (pos 0)) c.in_ok-number.ensures.bound m in
+    let here = c.in_ok-number.ensures.value in (
+      to_z-of_z w64 _ (overflow_add-sum g c) ∙ sum_more grid c.args.i c.loop-j.j c.args.xs.now _ _ c.in_ok-number.number c.loop-j.invariant.0 (mul_held _ _ fn fx f) here,
       below_more (λ k. is_some (place_of grid c.args.i k) ≡ true) _ c.loop-j.invariant.1 (some_more (place_of grid c.args.i c.loop-j.j) _ here),
       below_more (λ k. nat_abs (places c.args.xs.now k) ≤ 1073741824) _ c.loop-j.invariant.2 m,
     )
