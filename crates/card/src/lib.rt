@@ -5,6 +5,7 @@ mod checks;
 mod contents;
 mod table;
 mod tables;
+mod tried;
 mod writes;
 
 pub use block::{Fault, Layer, Notice};
