@@ -13,3 +13,4 @@ pub use checks::check_card;
 pub use contents::Contents;
 pub use section::{Kind, Section, Sizes};
 pub use table::CardTable;
+pub use tried::tried_head_sum;
