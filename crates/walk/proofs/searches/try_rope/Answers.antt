@@ -1,8 +1,8 @@
 use Rattle.std.proofs.Common.{true, false, sym, refl, ap, ◌∙◌, lit<, rules}
 use Rattle.job.proofs.Bits.{back, back_of, small_back}
 use Rattle.job.specs.Numbers.{problem_of}
-use Rattle.walk.specs.Lowering.{lowers}
-use Rattle.walk.specs.Walks.{first}
+use Rattle.walk.specs.ProblemLowering.{lowers}
+use Rattle.walk.specs.ProblemWalks.{first}
 use Rattle.walk.proofs.Sizes.{sizes_small}
 use Rattle.walk.proofs.Firsts.{left_start, left_none}
 use Rattle.walk.proofs.AlongSizes.{move, plus_hit, minus_hit, both_miss, hit_point, inside_at, tracks_at}
