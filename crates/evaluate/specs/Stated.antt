@@ -4,6 +4,7 @@ use Rattle.duality.specs.Lists.{places}
 use Rattle.duality.specs.Problem.{Problem}
 use Rattle.table.specs.Grid.{Grid, matrix_of}
 use Rattle.evaluate.specs.Terms.{sizes, limited}
+pub use Rattle.evaluate.specs.Terms.{problem_of}
 use Rattle.evaluate.specs.declared.terms.Terms.{Terms}
 
 pub record Numbers : Type 0 where

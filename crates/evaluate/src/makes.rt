@@ -33,7 +33,7 @@ impl Terms {
     /// `c`, `l` and `u` have a number for each rope, 1 to 16, and `lo` and `hi` one for each row, up to 32.
     pub fn new(c: Vec<i64>, l: Vec<i64>, u: Vec<i64>, lo: Vec<i64>, hi: Vec<i64>) -> Option<Terms>
         ensures value { option_map numbers_of result ≡ fitting (numbers c.items l.items u.items lo.items hi.items) }
-        ensures sizes { option_map sized_of result ≡ sized_fitting (sized c.items l.items u.items lo.items hi.items) }
+        ensures with_sizes { option_map sized_of result ≡ sized_fitting (sized c.items l.items u.items lo.items hi.items) }
     {
         if !sizes_fit(c.len(), l.len(), u.len(), lo.len(), hi.len()) {
             return None;
