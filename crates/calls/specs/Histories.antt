@@ -1,6 +1,6 @@
 -- Sequences of calls: the state that they lead to, the numbers in force after them, and what they offered.
 -- A history stands with the latest call first.
-use Rattle.std.specs.Prelude.{◌≡◌, ℕ, Bool, true, false, ◌⊎◌, List, [], ◌∷◌, ℤ, Some, None, Option}
+use Rattle.std.specs.Prelude.{◌≡◌, ℕ, ◌⊎◌, List, [], ◌∷◌, ℤ, None}
 use Rattle.evaluate.specs.Stated.{Numbers}
 use Rattle.calls.specs.declared.answers.Amendment.{Amendment}
 use Rattle.calls.specs.States.{State}

@@ -1,5 +1,5 @@
 -- What a plan may say of its problem, and that it never says anything else.
-use Rattle.std.specs.Prelude.{◌≡◌, ℕ, List, length, ℤ, pos, ◌-ℤ◌, ◌*ℤ◌, ◌≤ℤ◌, Some, None, Ok, Option, Result, ◌≢◌}
+use Rattle.std.specs.Prelude.{◌≡◌, List, length, ℤ, pos, ◌-ℤ◌, ◌*ℤ◌, ◌≤ℤ◌, Some, None, Ok, Option, Result, ◌≢◌}
 use Rattle.duality.specs.Convex.{Symmetric, Convex}
 use Rattle.duality.specs.Lists.{places}
 use Rattle.duality.specs.Problem.{Problem, Feasible, cost}

@@ -1,5 +1,5 @@
 -- When an offer is lawful, in the words of the problem, and what that has to do with refusals.
-use Rattle.std.specs.Prelude.{◌≡◌, ℕ, ◌<◌, ◌≤◌, List, length, ℤ, nat_abs, None, Option}
+use Rattle.std.specs.Prelude.{◌≡◌, List, length, ℤ, None, Option}
 use Rattle.duality.specs.Lists.{places}
 use Rattle.duality.specs.Problem.{Problem, Feasible}
 use Rattle.duality.specs.Refutation.{Refutes}

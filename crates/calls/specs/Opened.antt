@@ -1,5 +1,5 @@
 -- A plan that was just opened.
-use Rattle.std.specs.Prelude.{◌≡◌, ◌⊎◌, length, replicate, pos, Some, None, Ok, Err, Option, Result}
+use Rattle.std.specs.Prelude.{◌≡◌, ◌⊎◌, length, replicate, pos, Some, None, Ok, Err, Result}
 use Rattle.duality.specs.Convex.{Symmetric, Convex}
 use Rattle.table.specs.Grid.{Grid}
 use Rattle.opening.specs.declared.refusal.Refusal.{Refusal}

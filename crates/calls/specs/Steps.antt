@@ -1,5 +1,5 @@
 -- What each call answers, and the state that it leaves.
-use Rattle.std.specs.Prelude.{ℕ, Bool, true, false, cond, not, ◌&&◌, List, length, set, ℤ, is_some, Some, None, Ok, Err, Option, Result, ◌==◌, int_lt, slice_set}
+use Rattle.std.specs.Prelude.{ℕ, Bool, true, false, cond, not, ◌&&◌, List, length, ℤ, is_some, Some, None, Ok, Err, Option, Result, ◌==◌, int_lt, slice_set}
 use Rattle.std.specs.Option.{unwrap_or}
 use Rattle.duality.specs.Lists.{places}
 use Rattle.duality.specs.Problem.{Problem, cost}
