@@ -1,5 +1,5 @@
 -- Answers that are always given.
-use Rattle.std.proofs.Common.{◌≡◌, ℕ, Bool, true, false, pos, Some, None, arith}
+use Rattle.std.proofs.Common.{◌≡◌, ℕ, Bool, true, false, pos, None, arith}
 use Rattle.duality.specs.Tests.{answer}
 use Rattle.table.specs.Grid.{Grid}
 

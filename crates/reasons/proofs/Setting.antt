@@ -1,9 +1,9 @@
 -- One number of a list set to another: what still holds of the list.
-use Rattle.std.proofs.Common.{◌≡◌, ℕ, ◌<◌, Bool, true, false, ◌&&◌, ◌≢◌, List, length, get_or, set, ℤ, pos, sym, ap, ◌∙◌, subst, ⊎_elim, arith, length-set, get_or-set_other, get_or-set_same}
+use Rattle.std.proofs.Common.{◌≡◌, ℕ, ◌<◌, true, ◌&&◌, ◌≢◌, List, length, set, ℤ, pos, ap, ◌∙◌, ⊎_elim, arith, length-set, get_or-set_other, get_or-set_same}
 use lib.Signed.{le_z}
-use Rattle.std.proofs.lemmas.Bool.{cases_eq, and_parts, ltb-true}
+use Rattle.std.proofs.lemmas.Bool.{cases_eq, and_parts}
 use Rattle.duality.specs.Lists.{places}
-use Rattle.duality.specs.Tests.{all, within, all_within, in_order}
+use Rattle.duality.specs.Tests.{within, all_within, in_order}
 use Rattle.duality.proofs.Tests.{all_from, all_at}
 use Rattle.calls.specs.Refusing.{ordered}
 

@@ -15,20 +15,20 @@ loop-i-preserved c =
     let f : SFits w64 (get_or c.args.numbers.now c.loop-i.i (pos 0)) = search rules in
     let e = widened c.from.result (get_or zs c.loop-i.i (pos 0)) c.from.ensures f in
     put_as _ _ _ _ _ _ (sym (spread_more zs c.loop-i.i (wide c.from.result) c.loop-i-test.true e))
-    (put_then _ c.loop-i.out _ (spread (take c.loop-i.i zs)) (32 ∷ (signed_decimal (wide c.from.result) ++ [])) _ _ _ (omega (arith, c.requires)) c.loop-i.invariant c.put-line-next.ensures)
+    (put_then _ c.loop-i.out _ (spread (take c.loop-i.i zs)) (32 ∷ (signed_decimal (wide c.from.result) ++ [])) _ _ _ (omega (arith, c.requires)) c.loop-i.invariant c.put_line-next.ensures)
 
-pub put-line-next-requires : goal.put-line-next-requires
-put-line-next-requires c =
+pub put_line-next-requires : goal.put_line-next-requires
+put_line-next-requires c =
     let zs = c.args.numbers.now in
     let f : SFits w64 (get_or c.args.numbers.now c.loop-i.i (pos 0)) = search rules in
     let e = widened c.from.result (get_or zs c.loop-i.i (pos 0)) c.from.ensures f in
     room_more zs c.args.at _ _ _ c.loop-i.i c.loop-i.invariant.place c.loop-i.auto.out c.requires (wide c.from.result) c.loop-i-test.true e
 
-pub put-word-requires : goal.put-word-requires
-put-word-requires c = room_end c.args.numbers.now c.args.at _ _ _ c.loop-i.i c.loop-i.invariant.place c.loop-i.auto.out c.requires
+pub put_word-requires : goal.put_word-requires
+put_word-requires c = room_end c.args.numbers.now c.args.at _ _ _ c.loop-i.i c.loop-i.invariant.place c.loop-i.auto.out c.requires
 
 pub returns : goal.returns
 returns c =
     let zs = c.args.numbers.now in
     let all = put_as _ _ _ (spread zs) _ _ (ap spread (take_all c.loop-i.i zs (omega arith))) c.loop-i.invariant in
-    put_as _ _ _ _ _ _ (sym (rest_is zs)) (put_then _ c.loop-i.out _ (spread zs) (10 ∷ []) _ _ _ (omega (arith, c.requires)) all c.put-word.ensures)
+    put_as _ _ _ _ _ _ (sym (rest_is zs)) (put_then _ c.loop-i.out _ (spread zs) (10 ∷ []) _ _ _ (omega (arith, c.requires)) all c.put_word.ensures)

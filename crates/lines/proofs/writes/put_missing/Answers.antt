@@ -7,5 +7,5 @@ use Rattle.lines.proofs.writes.put_missing.Goals as goal
 
 pub returns : goal.returns
 returns c =
-    put_then _ _ _ c.args.first.now (floor_line c.args.floor) _ _ _ (omega (arith, c.requires)) c.put-word-next.ensures
-    (line_as (codes "floor ") (10 ∷ []) (wide c.args.floor) c.args.floor _ _ _ _ (wide_is c.args.floor c.ranges.floor) c.put-entry.ensures.put)
+    put_then _ _ _ c.args.first.now (floor_line c.args.floor) _ _ _ (omega (arith, c.requires)) c.put_word-next.ensures
+    (line_as (codes "floor ") (10 ∷ []) (wide c.args.floor) c.args.floor _ _ _ _ (wide_is c.args.floor c.ranges.floor) c.put_entry.ensures.put)

@@ -9,5 +9,5 @@ returns c =
     let r = c.args.report.now in
     let s = c.args.shown.now in
     let found = found_text s.floor c.args.point.now s.found in
-    let tail = put_then _ _ _ (moves_line r.moves r.walk) found _ _ _ (omega arith) c.put-moves-next.ensures.put c.put-found.ensures in
-    put_then _ _ _ (exchange_line r.steps r.exchange) (moves_line r.moves r.walk ++ found) 0 _ _ (omega arith) c.put-exchange-next.ensures.put tail
+    let tail = put_then _ _ _ (moves_line r.moves r.walk) found _ _ _ (omega arith) c.put_moves-next.ensures.put c.put_found.ensures in
+    put_then _ _ _ (exchange_line r.steps r.exchange) (moves_line r.moves r.walk ++ found) 0 _ _ (omega arith) c.put_exchange-next.ensures.put tail

@@ -8,12 +8,12 @@ use Rattle.lines.proofs.writes.write_refusal.Goals as goal
 pub returns : goal.returns
 returns c =
     let text = refusal_text c.args.number c.args.place in
-    let passed = sym c.in-ok-check-room.ensures.value in
+    let passed = sym c.in_ok-check_room.ensures.value in
     record {
-      answer = answered_is (room_check (length c.args.out.now)) text c.args.out.now c.put-refusal.new.out _ passed c.put-refusal.ensures;
-      after = after_is (room_check (length c.args.out.now)) text c.args.out.now c.put-refusal.new.out _ passed c.put-refusal.ensures;
+      answer = answered_is (room_check (length c.args.out.now)) text c.args.out.now c.put_refusal.new.out _ passed c.put_refusal.ensures;
+      after = after_is (room_check (length c.args.out.now)) text c.args.out.now c.put_refusal.new.out _ passed c.put_refusal.ensures;
       legible = legible;
     }
 
-pub returns-in-err-check-room : goal.returns-in-err-check-room
-returns-in-err-check-room c = record { answer = search rules; after = search rules; legible = legible }
+pub returns-in_err-check_room : goal.returns-in_err-check_room
+returns-in_err-check_room c = record { answer = search rules; after = search rules; legible = legible }

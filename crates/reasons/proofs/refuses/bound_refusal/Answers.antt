@@ -1,7 +1,5 @@
-use Rattle.std.proofs.Common.{vec_items, vec_len}
+use Rattle.std.proofs.Common.{vec_len}
 use Rattle.std.proofs.lemmas.Bool.{both_ways, and_parts}
-use Rattle.table.specs.Grid.{Grid}
-use Rattle.evaluate.specs.Terms.{problem_of}
 use Rattle.evaluate.proofs.Bounding.{lies}
 use Rattle.evaluate.proofs.Firsts.{no_point}
 use Rattle.reasons.proofs.Given.{no_grid}
