@@ -1,8 +1,9 @@
 -- Numbers as they are spelled: the sign and the digits, and numbers that went to bits and are read again.
-use Rattle.std.proofs.Common.{◌≡◌, ℕ, ◌-◌, ◌^◌, ◌<◌, List, ◌++◌, length, take, drop, ℤ, pos, negsuc, nat_abs, decimal, refl, ap, ◌∙◌, arith, w64, SFits, to_z, of_z}
+use Rattle.std.proofs.Common.{◌≡◌, ℕ, ◌-◌, ◌^◌, ◌<◌, List, ◌++◌, length, take, drop, ℤ, pos, negsuc, nat_abs, decimal, refl, ap, ◌∙◌, zero-le, arith, w64, SFits, to_z, of_z}
 use lib.Signed.{lt_z}
 use mir.Syntax.{w128}
 use Rattle.std.specs.Fmt.{sign_text, signed_decimal}
+use Rattle.std.proofs.lemmas.Bool.{le-ltb}
 use Rattle.std.proofs.lemmas.List.{take_all, length-drop}
 use Rattle.std.proofs.lemmas.Int.{ints, to_z-of_z}
 
@@ -34,7 +35,7 @@ digits_are m s ds long e = take_all (64 - s) (drop s ds) (omega (arith, length-d
 signed_is : (z v : ℤ) (m : ℕ) → v ≡ z → m ≡ nat_abs v → sign_text (lt_z v (pos 0)) ++ decimal m ≡ signed_decimal z
 signed_is z v m e a = rw (a, e) (signed_text z) where
   signed_text : (y : ℤ) → sign_text (lt_z y (pos 0)) ++ decimal (nat_abs y) ≡ signed_decimal y
-  signed_text (pos n) = refl
+  signed_text (pos n) = ap (λ b. sign_text b ++ decimal n) (le-ltb n 0 zero-le)
   signed_text (negsuc n) = refl
 
 pub number_is : (z : ℤ) (m s : ℕ) (ds : List ℕ) → SFits w128 z → m ≡ nat_abs (wide z) → length ds ≡ 64 → drop s ds ≡ decimal m

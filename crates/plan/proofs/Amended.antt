@@ -1,5 +1,5 @@
 -- An amendment that is allowed, as a whole.
-use Rattle.std.proofs.Common.{◌≡◌, Bool, true, false, not, ◌&&◌, List, ℤ, None, Ok, Option, Result, sym, refl, ap, ◌∙◌}
+use Rattle.std.proofs.Common.{◌≡◌, Bool, true, false, not, ◌&&◌, List, ℤ, None, Ok, Option, sym, refl, ap, ◌∙◌}
 use Rattle.duality.specs.Lists.{places}
 use Rattle.opening.specs.declared.refusal.Refusal.{Refusal}
 use Rattle.evaluate.specs.Stated.{Numbers, stated}

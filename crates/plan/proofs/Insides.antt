@@ -1,5 +1,5 @@
 -- Points that are held lie inside their bounds.
-use Rattle.std.proofs.Common.{◌≡◌, ℕ, Bool, true, false, cond, eqb, List, length, ℤ, Some, None, Option, sym, refl, ap, ◌∙◌, subst, arith}
+use Rattle.std.proofs.Common.{◌≡◌, ℕ, Bool, true, false, cond, eqb, List, length, ℤ, None, sym, refl, arith}
 use Rattle.std.specs.Option.{option_or}
 use Rattle.std.proofs.lemmas.Bool.{and_parts, eqb-true}
 use Rattle.duality.specs.Lists.{places}
@@ -10,7 +10,6 @@ use Rattle.opening.specs.declared.refusal.Refusal.TheVariants.{OfferLength}
 use Rattle.opening.proofs.Firsts.{or_none, mapped_none, cond_none}
 use Rattle.evaluate.specs.Findings.{keeps_bound, keeps_row, feasible}
 use Rattle.calls.specs.Refusing.{length_refusal, limit_refusal, bound_refusal, row_refusal, point_refusal}
-use Rattle.plan.specs.Inside.{held_inside}
 use Rattle.plan.specs.View.{held_if}
 use Rattle.calls.specs.Steps.{standing}
 

@@ -1,11 +1,11 @@
 -- What fits at the opening of a plan.
-use Rattle.std.proofs.Common.{◌≡◌, ℕ, zero, suc, ◌<◌, ◌≤◌, Bool, true, false, cond, ◌&&◌, eqb, ltb, leb, List, [], ◌∷◌, length, replicate, ℤ, pos, nat_abs, Some, None, sym, refl, ap, ◌∙◌, subst, arith, lit≤}
+use Rattle.std.proofs.Common.{◌≡◌, ℕ, ◌<◌, ◌≤◌, true, eqb, ltb, leb, List, length, replicate, ℤ, pos, nat_abs, Some, None, sym, refl, ap, ◌∙◌, subst, arith}
 use lib.ListN.{length-replicate, get_or-replicate}
 use Rattle.std.proofs.lemmas.Bool.{and_from, eq-eqb, le-leb, lt-ltb, cond-true}
 use Rattle.duality.specs.Lists.{places}
 use Rattle.duality.specs.Tests.{within, all_within, in_order, many_within}
 use Rattle.duality.proofs.Tests.{all_from, le_le_z}
-use Rattle.table.specs.Grid.{Grid, height_of}
+use Rattle.table.specs.Grid.{Grid}
 use Rattle.opening.specs.Opening.{Numbers, open_fault}
 use Rattle.opening.specs.Fits.{Fits, Near, Ordered}
 use Rattle.opening.proofs.Fitting.{tells_fit}

@@ -1,5 +1,5 @@
 -- What the parts of a solve make together.
-use Rattle.std.proofs.Common.{◌≡◌, ℕ, suc, ◌+◌, ◌-◌, ◌<◌, ◌≤◌, true, List, [], ◌∷◌, ◌++◌, take, ℤ, sym, refl, ap, ◌∙◌, zero-add}
+use Rattle.std.proofs.Common.{◌≡◌, ℕ, suc, ◌+◌, ◌-◌, true, List, [], ◌∷◌, ◌++◌, take, ℤ, sym, refl, ap, ◌∙◌, zero-add}
 use lib.Ieee.{Float}
 use Rattle.duality.specs.Problem.{Problem}
 use Rattle.elimination.specs.Lines.{largest}
@@ -14,7 +14,7 @@ use Rattle.exchange.specs.declared.members.Step.TheVariants as step
 use Rattle.exchange.specs.ProblemOffers.{OffersInside}
 use Rattle.exchange.specs.Runs.{Run, stepped, offers_of, run_from, exchanged}
 use Rattle.exchange.proofs.Running.{run_starts}
-use Rattle.calls.specs.States.{State, Pair}
+use Rattle.calls.specs.States.{State}
 use Rattle.calls.specs.Steps.{pointed, paired}
 use Rattle.calls.specs.Offers.{Offer, point, pair, took, took_all}
 use Rattle.calls.specs.Solving.{found_offers, last_found, point_found, pair_found}

@@ -1,6 +1,7 @@
 -- A plan as the state that it stands for.
 use Rattle.std.specs.Prelude.{Bool, cond, List, ℤ, Some, None, vec_items, Option}
 use Rattle.table.specs.Grid.{Grid}
+use Rattle.table.specs.declared.interface.Table.{Ghosts}
 use Rattle.evaluate.specs.Stated.{numbers_of}
 use Rattle.calls.specs.States.{State}
 use Rattle.plan.specs.declared.state.Plan.{Plan}
@@ -9,7 +10,7 @@ abbrev pub held_if : Bool → List ℤ → Option (List ℤ)
 held_if b xs = cond b (Some xs) None
 
 -- where the tables of the two kinds mean these grids
-abbrev pub view : {G A : Type 0} → (G → Grid) → (A → Grid) → Plan G A → State
+abbrev pub view : {G A : Type 0} {ofG : Ghosts G} {ofA : Ghosts A} → (G → Grid) → (A → Grid) → Plan G A ofG ofA → State
 view meantG meantA p =
     record {
       g = meantG p.g;

@@ -1,4 +1,4 @@
-use Rattle.std.proofs.Common.{◌+◌, ◌++◌, length, decimal, ap, arith}
+use Rattle.std.proofs.Common.{◌++◌, length, decimal, ap, arith}
 use Rattle.std.specs.Fmt.{signed_decimal}
 use Rattle.lines.proofs.Putting.{put_as}
 use Rattle.lines.proofs.Spelling.{counted}

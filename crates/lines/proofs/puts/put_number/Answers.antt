@@ -1,4 +1,4 @@
-use Rattle.std.proofs.Common.{◌-◌, arith}
+use Rattle.std.proofs.Common.{arith}
 use Rattle.std.specs.Fmt.{signed_decimal}
 use Rattle.lines.proofs.Putting.{put_then, put_as, room_left}
 use Rattle.lines.proofs.Spelling.{number_is}

@@ -1,4 +1,4 @@
-use Rattle.std.proofs.Common.{vec_len, sym}
+use Rattle.std.proofs.Common.{vec_len}
 use Rattle.duality.specs.Lists.{places}
 use Rattle.evaluate.specs.Terms.{problem_of}
 use Rattle.evaluate.specs.Findings.{feasible}
@@ -14,6 +14,6 @@ returns-then-held g c =
     let z = c.args.z.now in
     let n = many_long (vec_len t.c) 32768 z c.requires in
     record {
-      value = λ h. stands_is (λ x. feasible (problem_of h a t) (places x)) z _ _ c.if-held.true (c.keeps-all.ensures h);
-      inside = stands_inside (problem_of no_grid a t) z _ n (c.keeps-all.ensures no_grid);
+      value = λ h. stands_is (λ x. feasible (problem_of h a t) (places x)) z _ _ c.if-held.true (c.keeps_all.ensures h);
+      inside = stands_inside (problem_of no_grid a t) z _ n (c.keeps_all.ensures no_grid);
     }

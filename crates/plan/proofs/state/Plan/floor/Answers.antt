@@ -1,4 +1,4 @@
-use Rattle.std.proofs.Common.{◌≡◌, vec_len, sym, ap, ◌∙◌, rules}
+use Rattle.std.proofs.Common.{vec_len, ap, ◌∙◌, rules}
 use Rattle.duality.specs.Tests.{many_within}
 use Rattle.calls.specs.States.{State, Pair, problem}
 use Rattle.calls.specs.Refusing.{pair_refusal}
@@ -8,15 +8,15 @@ use Rattle.reasons.proofs.Fitting.{pair_many}
 use Rattle.plan.proofs.Refused.{allowed_none, decides_lawful}
 use Rattle.plan.proofs.state.Plan.floor.Goals as goal
 
-pub invariant-of-self : goal.invariant-of-self
-invariant-of-self g c =
+pub invariant_of-self : goal.invariant_of-self
+invariant_of-self g c =
     let s : State = view g.G.Table.meant g.A.Table.meant c.args.self.now in
     let p = c.args.self.now in
     let q : Pair = record { point = c.args.p.now; multipliers = c.args.y.now } in
     let m = pair_many (problem s) q (allowed_none _ _ _ c.in-Ok-Taken.ensures) in
-    let fb = ap (many_within (vec_len p.terms.c) 32768) c.copy-from-slice.ensures.items ∙ m.0 in
-    let fw = ap (many_within (vec_len p.terms.lo) 16777216) c.copy-from-slice-in-Ok-Taken.ensures.items ∙ m.1 in
-    (p.inside, (p.pulls, (p.refuters, (fb, (fw, tt)))))
+    let fb = ap (many_within (vec_len p.terms.c) 32768) c.copy_from_slice.ensures.items ∙ m.0 in
+    let fw = ap (many_within (vec_len p.terms.lo) 16777216) c.copy_from_slice-in-Ok-Taken.ensures.items ∙ m.1 in
+    record { inside = p.inside; pulls = p.pulls; refuters = p.refuters; bases = fb; weights = fw }
 
 pub returns-in-Ok-Taken : goal.returns-in-Ok-Taken
 returns-in-Ok-Taken g c =

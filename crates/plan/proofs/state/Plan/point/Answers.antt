@@ -1,4 +1,4 @@
-use Rattle.std.proofs.Common.{◌≡◌, List, length, ℤ, vec_items, vec_len, sym, ap, ◌∙◌, rules}
+use Rattle.std.proofs.Common.{◌≡◌, List, length, ℤ, vec_items, vec_len, ap, ◌∙◌, rules}
 use Rattle.duality.specs.Tests.{many_within}
 use Rattle.calls.specs.States.{State, problem}
 use Rattle.calls.specs.Refusing.{point_refusal}
@@ -9,16 +9,16 @@ use Rattle.plan.proofs.Refused.{allowed_none, decides_lawful}
 use Rattle.plan.proofs.Insides.{lies_in, point_inside}
 use Rattle.plan.proofs.state.Plan.point.Goals as goal
 
-pub invariant-of-self : goal.invariant-of-self
-invariant-of-self g c =
+pub invariant_of-self : goal.invariant_of-self
+invariant_of-self g c =
     let s : State = view g.G.Table.meant g.A.Table.meant c.args.self.now in
     let p = c.args.self.now in
     let z = c.args.z.now in
     let none = allowed_none _ _ _ c.in-Ok-Taken.ensures in
-    let same : vec_items c.copy-from-slice.new.self ≡ z = c.copy-from-slice.ensures.items in
+    let same : vec_items c.copy_from_slice.new.self ≡ z = c.copy_from_slice.ensures.items in
     let fi = ap (λ (x : List ℤ). lies_in (problem s) x (length x)) same ∙ point_inside (problem s) z none in
     let fp = ap (many_within (vec_len p.terms.c) 32768) same ∙ point_many (problem s) z none in
-    (fi, (fp, (p.refuters, (p.bases, (p.weights, tt)))))
+    record { inside = fi; pulls = fp; refuters = p.refuters; bases = p.bases; weights = p.weights }
 
 pub returns-in-Ok-Taken : goal.returns-in-Ok-Taken
 returns-in-Ok-Taken g c =

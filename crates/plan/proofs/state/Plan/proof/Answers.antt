@@ -1,4 +1,4 @@
-use Rattle.std.proofs.Common.{◌≡◌, vec_len, sym, ap, ◌∙◌, rules}
+use Rattle.std.proofs.Common.{vec_len, ap, ◌∙◌, rules}
 use Rattle.duality.specs.Tests.{many_within}
 use Rattle.calls.specs.States.{State, problem}
 use Rattle.calls.specs.Refusing.{proof_refusal}
@@ -8,13 +8,13 @@ use Rattle.reasons.proofs.Fitting.{proof_many}
 use Rattle.plan.proofs.Refused.{allowed_none, decides_lawful}
 use Rattle.plan.proofs.state.Plan.proof.Goals as goal
 
-pub invariant-of-self : goal.invariant-of-self
-invariant-of-self g c =
+pub invariant_of-self : goal.invariant_of-self
+invariant_of-self g c =
     let s : State = view g.G.Table.meant g.A.Table.meant c.args.self.now in
     let p = c.args.self.now in
     let n = vec_len p.terms.lo in
     let m = proof_many (problem s) c.args.y.now (allowed_none _ _ _ c.in-Ok-Taken.ensures) in
-    (p.inside, (p.pulls, (ap (many_within n 16777216) c.copy-from-slice.ensures.items ∙ m, (p.bases, (p.weights, tt)))))
+    record { inside = p.inside; pulls = p.pulls; refuters = ap (many_within n 16777216) c.copy_from_slice.ensures.items ∙ m; bases = p.bases; weights = p.weights }
 
 pub returns-in-Ok-Taken : goal.returns-in-Ok-Taken
 returns-in-Ok-Taken g c =

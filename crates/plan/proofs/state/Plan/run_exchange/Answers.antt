@@ -1,8 +1,8 @@
-use Rattle.std.proofs.Common.{◌≡◌, ℕ, suc, ◌+◌, ◌-◌, vec_items, sym, ap, ◌∙◌, arith, rules}
+use Rattle.std.proofs.Common.{◌+◌, ◌-◌, vec_items, sym, ap, ◌∙◌, arith}
 use Rattle.evaluate.specs.Stated.{Numbers}
 use Rattle.job.specs.Numbers.{problem_of}
-use Rattle.exchange.specs.Runs.{Run, over, run_from, reported}
-use Rattle.exchange.proofs.Running.{turn_on, turn_over, run_spent}
+use Rattle.exchange.specs.Runs.{over, run_from, reported}
+use Rattle.exchange.proofs.Running.{turn_on, turn_over}
 use Rattle.calls.specs.States.{State}
 use Rattle.plan.specs.View.{view}
 use Rattle.plan.proofs.Solving.{exchange_starts, step_inside, more_numbers, more_taken, more_last, more_steps, more_ending, more_smallest}
@@ -27,16 +27,16 @@ loop-k-preserved g c =
     let st = c.step-step.result in
     let s₀ : State = view g.G.Table.meant g.A.Table.meant c.args.self.now in
     let s : State = view g.G.Table.meant g.A.Table.meant c.loop-k.self in
-    let s' : State = view g.G.Table.meant g.A.Table.meant c.offer-step.new.self in
+    let s' : State = view g.G.Table.meant g.A.Table.meant c.offer_step.new.self in
     let er =
     turn_on P e.ropes e.rows B k (vec_items e.members) e.smallest i.ropes i.rows c.loop-k-test.true st h.value
-    (vec_items v.members) v.smallest h.members h.smallest c.in-default.ensures in
+    (vec_items v.members) v.smallest h.members h.smallest c.in_default.ensures in
     let rest = run_from (B - (k + 1)) P (vec_items v.members) v.smallest in
     let z₀ = c.args.at.now in
     let z = c.loop-k.at in
-    let z' = c.offer-step.new.at in
-    let es = c.offer-step.ensures.after in
-    let ez = c.offer-step.ensures.last in
+    let z' = c.offer_step.new.at in
+    let es = c.offer_step.ensures.after in
+    let ez = c.offer_step.ensures.last in
     let n = e.ropes in
     let m = e.rows in
     let ms = vec_items e.members in
@@ -65,16 +65,16 @@ returns-in-Some g c =
     let st = c.step-step.result in
     let s₀ : State = view g.G.Table.meant g.A.Table.meant c.args.self.now in
     let s : State = view g.G.Table.meant g.A.Table.meant c.loop-k.self in
-    let s' : State = view g.G.Table.meant g.A.Table.meant c.offer-step.new.self in
+    let s' : State = view g.G.Table.meant g.A.Table.meant c.offer_step.new.self in
     let er =
     turn_over P e.ropes e.rows B k (vec_items e.members) e.smallest i.ropes i.rows c.loop-k-test.true st h.value
     v.smallest c.in-Some.end h.smallest c.in-Some.ensures in
     let rest = over c.in-Some.end v.smallest in
     let z₀ = c.args.at.now in
     let z = c.loop-k.at in
-    let z' = c.offer-step.new.at in
-    let es = c.offer-step.ensures.after in
-    let ez = c.offer-step.ensures.last in
+    let z' = c.offer_step.new.at in
+    let es = c.offer_step.ensures.after in
+    let ez = c.offer_step.ensures.last in
     let n = e.ropes in
     let m = e.rows in
     let ms = vec_items e.members in
@@ -84,7 +84,7 @@ returns-in-Some g c =
           record {
             steps = omega (arith, more_steps P B k s₀ s s' z₀ z z' n m ms f st i es ez rest er);
             end = more_ending P B k s₀ s s' z₀ z z' n m ms f st i es ez rest er;
-            smallest = c.smallest-pivot-smallest.ensures ∙ ap reported (more_smallest P B k s₀ s s' z₀ z z' n m ms f st i es ez rest er);
+            smallest = c.smallest_pivot-smallest.ensures ∙ ap reported (more_smallest P B k s₀ s s' z₀ z z' n m ms f st i es ez rest er);
           };
       after = more_taken P B k s₀ s s' z₀ z z' n m ms f st i es ez rest er;
       last = more_last P B k s₀ s s' z₀ z z' n m ms f st i es ez rest er;

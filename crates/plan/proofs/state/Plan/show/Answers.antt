@@ -1,6 +1,5 @@
-use Rattle.std.proofs.Common.{◌≡◌, length, rules}
+use Rattle.std.proofs.Common.{rules}
 use Rattle.calls.specs.States.{State}
-use Rattle.calls.specs.Steps.{show_answer, shown_in}
 use Rattle.calls.proofs.Showing.{show_law}
 use Rattle.plan.specs.View.{view}
 use Rattle.plan.proofs.state.Plan.show.Goals as goal
