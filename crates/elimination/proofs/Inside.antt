@@ -1,10 +1,10 @@
 -- Every unknown that is found lies strictly inside the bound, and is rounded to a number within it.
-use Rattle.std.proofs.Common.{◌≡◌, ℕ, zero, suc, ◌+◌, ◌*◌, ◌^◌, ◌<◌, ◌≤◌, Bool, true, false, cond, T, List, [], ◌∷◌, length, ℤ, pos, nat_abs, Some, None, Option, sym, refl, ap, ◌∙◌, subst, true≢false, div-lt_iff_lt-mul, arith, ltb→lt}
+use Rattle.std.proofs.Common.{◌≡◌, ℕ, zero, suc, ◌+◌, ◌*◌, ◌^◌, ◌<◌, ◌≤◌, Bool, true, false, cond, T, List, [], ◌∷◌, length, ℤ, nat_abs, Some, None, Option, sym, refl, ap, ◌∙◌, subst, true≢false, div-lt_iff_lt-mul, arith, ltb→lt}
 use lib.Ieee.{Float, nan, inf, fin, binary64, up, down, round, lt, to_signed}
 use lib.Ieee.Back.{round_whole}
 use lib.Ieee.Fits.{down_pos}
-use Rattle.std.specs.Float.{float_round, round_with, float_with_sign}
-use Rattle.elimination.specs.Lines.{at, inside, unknown_of, joined_to, one_more, unknowns_of, and_then, columns_done, solved}
+use Rattle.std.specs.Float.{round_with, float_with_sign}
+use Rattle.elimination.specs.Lines.{at, inside, unknown_of, one_more, unknowns_of, and_then, columns_done, solved}
 use Rattle.elimination.specs.Nearest.{nearest, half_away, with_sign_of}
 use Rattle.elimination.proofs.Halves.{cast_whole}
 

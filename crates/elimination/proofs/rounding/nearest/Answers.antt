@@ -1,5 +1,4 @@
-use Rattle.std.proofs.Common.{◌≡◌, ap, ◌∙◌, rules}
-use lib.Ieee.{to_signed}
+use Rattle.std.proofs.Common.{◌≡◌, ◌∙◌, rules}
 use Rattle.elimination.specs.Nearest.{nearest, nearest_whole}
 use Rattle.elimination.proofs.Halves.{nearest_law}
 use Rattle.elimination.proofs.rounding.nearest.Goals as goal

@@ -1,4 +1,4 @@
-use Rattle.std.proofs.Common.{◌≡◌, ◌-◌, List, length, Some, None, Option, ap, ◌∙◌, subst, arith, rules}
+use Rattle.std.proofs.Common.{◌≡◌, List, length, Some, None, Option, ap, ◌∙◌, subst, arith, rules}
 use lib.Ieee.{Float}
 use Rattle.std.specs.Option.{option_map}
 use Rattle.elimination.specs.Lines.{padded, Solves}

@@ -1,7 +1,7 @@
-use Rattle.std.proofs.Common.{◌≡◌, List, [], ◌∷◌, Some, None, Option, sym, refl, ap, ◌∙◌, Bor, MatchOption}
+use Rattle.std.proofs.Common.{◌≡◌, List, [], ◌∷◌, None, sym, refl, ap, ◌∙◌, ◌⊎◌, inl, inr}
 use lib.Ieee.{Float}
 use Rattle.std.proofs.lemmas.Iterator.{zips}
-use Rattle.std.proofs.lemmas.List.{nil_from_length}
+use Rattle.std.proofs.lemmas.Slice.Zip.{either_empty_from_Zip}
 use Rattle.std.proofs.iter.Yields.{fronts}
 use Rattle.std.specs.Slice.Iter.{iter_rest}
 use Rattle.std.specs.Iterator.Adapters.{zip_first, zip_second}
@@ -15,12 +15,11 @@ rest_nil b [] = refl
 rest_nil b (x ∷ xs) = refl
 
 ended : (s t : Zip (Iter Float) (Iter Float)) (b : Float) → zips fronts fronts s None t → rest b (iter_rest (zip_first s)) (iter_rest (zip_second s)) ≡ b
-ended s t b h = go h.0 h.1 h.2
+ended s t b h = by (either_empty_from_Zip s t None refl h)
   where
-    go : (o : Option (Bor Float)) → fronts (zip_first s) o (zip_first t) → MatchOption o (zip_second t ≡ zip_second s) (λ _. fronts (zip_second s) None (zip_second t)) →
-        rest b (iter_rest (zip_first s)) (iter_rest (zip_second s)) ≡ b
-    go None p q = let e = nil_from_length (iter_rest (zip_first s)) p.0 in rw e (rest_nil b (iter_rest (zip_second s)))
-    go (Some x) p q = let e = nil_from_length (iter_rest (zip_second s)) q.0 in rw e
+    by : (iter_rest (zip_first s) ≡ []) ⊎ (iter_rest (zip_second s) ≡ []) → rest b (iter_rest (zip_first s)) (iter_rest (zip_second s)) ≡ b
+    by (inl e) = rw e (rest_nil b (iter_rest (zip_second s)))
+    by (inr e) = rw e
 
 pub loop-a-init : goal.loop-a-init
 loop-a-init c =
