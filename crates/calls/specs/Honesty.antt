@@ -3,7 +3,7 @@ use Rattle.std.specs.Prelude.{◌≡◌, ℕ, List, length, ℤ, pos, ◌-ℤ◌
 use Rattle.duality.specs.Convex.{Symmetric, Convex}
 use Rattle.duality.specs.Lists.{places}
 use Rattle.duality.specs.Problem.{Problem, Feasible, cost}
-use Rattle.evaluate.specs.Terms.{stated}
+use Rattle.evaluate.specs.Stated.{stated}
 use Rattle.opening.specs.declared.refusal.Refusal.{Refusal}
 use Rattle.calls.specs.declared.answers.Found.{Found}
 use Rattle.calls.specs.declared.answers.Found.TheVariants.{NoneExists, Point, NoPoint}

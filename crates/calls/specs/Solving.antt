@@ -5,7 +5,7 @@ use Rattle.duality.specs.Lists.{places}
 use Rattle.duality.specs.Problem.{Problem}
 use Rattle.opening.specs.declared.refusal.Refusal.{Refusal}
 use Rattle.opening.specs.declared.refusal.Refusal.TheVariants.{OfferLimit, Memory}
-use Rattle.evaluate.specs.Terms.{Numbers}
+use Rattle.evaluate.specs.Stated.{Numbers}
 use Rattle.job.specs.Numbers as job
 use Rattle.job.specs.Rows.{judged}
 use Rattle.job.specs.declared.verdict.Verdict.{Verdict}
@@ -13,8 +13,8 @@ use Rattle.job.specs.declared.verdict.Verdict.TheVariants.{Met, Broken, NoPoint}
 use Rattle.reading.specs.Plain.{plain}
 use Rattle.exchange.specs.Runs.{Run, exchanged, reported}
 use Rattle.exchange.specs.declared.members.Offer.{Offer as Found}
-use Rattle.walk.specs.Walks.{Ended, walk_from}
-use Rattle.walk.specs.Laws.{Lawful}
+use Rattle.walk.specs.ProblemWalks.{Ended, walk_from}
+use Rattle.walk.specs.ProblemLaws.{Lawful}
 use Rattle.calls.specs.declared.answers.Report.{Report}
 use Rattle.calls.specs.States.{State, Pair}
 use Rattle.calls.specs.Offers.{Offer, point, pair, took_all}

@@ -5,7 +5,7 @@ use Rattle.duality.specs.Lists.{places}
 use Rattle.duality.specs.Problem.{Problem, cost}
 use Rattle.duality.specs.Floor.{gap}
 use Rattle.opening.specs.declared.refusal.Refusal.{Refusal}
-use Rattle.evaluate.specs.Terms.{Numbers}
+use Rattle.evaluate.specs.Stated.{Numbers}
 use Rattle.evaluate.specs.Findings.{feasible}
 use Rattle.evaluate.specs.Floors.{refuting}
 use Rattle.calls.specs.declared.answers.Amendment.{Amendment}

@@ -1,3 +1,4 @@
 pub mod Terms
+pub mod Stated
 pub mod Findings
 pub mod Floors

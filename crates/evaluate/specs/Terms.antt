@@ -7,29 +7,17 @@ use Rattle.table.specs.Grid.{Grid, matrix_of}
 use Rattle.evaluate.specs.declared.terms.Terms.{Terms}
 
 pub record Numbers : Type 0 where
-  pub ropes : ℕ
-  pub rows : ℕ
   pub c : List ℤ
   pub l : List ℤ
   pub u : List ℤ
   pub lo : List ℤ
   pub hi : List ℤ
 
--- the sizes follow from the lists: a linear cost for each rope, a lower limit for each row
 abbrev pub numbers : (c l u lo hi : List ℤ) → Numbers
-numbers c l u lo hi = record { ropes = length c; rows = length lo; c = c; l = l; u = u; lo = lo; hi = hi }
+numbers c l u lo hi = record { c = c; l = l; u = u; lo = lo; hi = hi }
 
 abbrev pub numbers_of : Terms → Numbers
-numbers_of t =
-    record {
-      ropes = vec_len t.c;
-      rows = vec_len t.lo;
-      c = vec_items t.c;
-      l = vec_items t.l;
-      u = vec_items t.u;
-      lo = vec_items t.lo;
-      hi = vec_items t.hi;
-    }
+numbers_of t = numbers (vec_items t.c) (vec_items t.l) (vec_items t.u) (vec_items t.lo) (vec_items t.hi)
 
 -- a number of each kind for each of 1 to 16 ropes, and for each of 0 to 32 rows
 abbrev pub sizes : (c l u lo hi : ℕ) → Bool
@@ -45,23 +33,20 @@ abbrev pub fitting : Numbers → Option Numbers
 fitting x =
     cond (sizes (length x.c) (length x.l) (length x.u) (length x.lo) (length x.hi) && limited x.c x.l x.u x.lo x.hi) (Some x) None
 
--- the problem that a table G, a table A and these numbers state; a blank is 0
-abbrev pub stated : Grid → Grid → Numbers → Problem
-stated g a x =
-    record {
-      ropes = x.ropes;
-      rows = x.rows;
-      G = matrix_of g;
-      c = places x.c;
-      A = matrix_of a;
-      lo = places x.lo;
-      hi = places x.hi;
-      l = places x.l;
-      u = places x.u;
-    }
-
+-- the problem that a table G, a table A and the terms state; a blank is 0
 abbrev pub problem_of : Grid → Grid → Terms → Problem
-problem_of g a t = stated g a (numbers_of t)
+problem_of g a t =
+    record {
+      ropes = vec_len t.c;
+      rows = vec_len t.lo;
+      G = matrix_of g;
+      c = places (vec_items t.c);
+      A = matrix_of a;
+      lo = places (vec_items t.lo);
+      hi = places (vec_items t.hi);
+      l = places (vec_items t.l);
+      u = places (vec_items t.u);
+    }
 
 -- a list whose products with a row add up in 64 bits
 pub record Summable (z : List ℤ) : Type 0 where

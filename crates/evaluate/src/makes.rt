@@ -2,6 +2,7 @@
 ghost use Rattle.std.specs.Prelude.{◌≡◌, length};
 ghost use Rattle.std.specs.Option.{option_map};
 ghost use Rattle.evaluate.specs.Terms.{sizes, limited, numbers, numbers_of, fitting};
+ghost use Rattle.evaluate.specs.Stated.{numbers as sized, numbers_of as sized_of, fitting as sized_fitting};
 
 use crate::checks::{PRICE_LIMIT, PULL_LIMIT, ROW_LIMIT, all_within, in_order};
 use crate::terms::Terms;
@@ -31,7 +32,8 @@ impl Terms {
     ///
     /// `c`, `l` and `u` have a number for each rope, 1 to 16, and `lo` and `hi` one for each row, up to 32.
     pub fn new(c: Vec<i64>, l: Vec<i64>, u: Vec<i64>, lo: Vec<i64>, hi: Vec<i64>) -> Option<Terms>
-        ensures { option_map numbers_of result ≡ fitting (numbers c.items l.items u.items lo.items hi.items) }
+        ensures value { option_map numbers_of result ≡ fitting (numbers c.items l.items u.items lo.items hi.items) }
+        ensures with_sizes { option_map sized_of result ≡ sized_fitting (sized c.items l.items u.items lo.items hi.items) }
     {
         if !sizes_fit(c.len(), l.len(), u.len(), lo.len(), hi.len()) {
             return None;

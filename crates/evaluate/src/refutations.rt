@@ -1,11 +1,11 @@
 //! Multipliers that show that no point is feasible.
-ghost use Rattle.std.specs.Prelude.{◌≡◌, true, IfSome, vec_len, Decides};
+ghost use Rattle.std.specs.Prelude.{◌≡◌, true, IfSome, vec_len, Decides, int_lt};
 ghost use Rattle.duality.specs.Lists.{places};
 ghost use Rattle.duality.specs.Refutation.{most_allowed, least_needed, Refutes};
 ghost use Rattle.table.specs.Grid.{Grid};
 ghost use Rattle.evaluate.specs.Terms.{problem_of};
 ghost use Rattle.duality.specs.Tests.{many_within, answer};
-ghost use Rattle.evaluate.specs.Floors.{refuting, LeavesNone};
+ghost use Rattle.evaluate.specs.Floors.{LeavesNone};
 
 use crate::checks::many_within;
 use crate::multipliers::{MULTIPLIER_LIMIT, column_of};
@@ -40,7 +40,8 @@ fn least_needed(terms: &Terms, y: &[i64]) -> i128
 /// Whether the multipliers y show that no point is feasible, whatever G is. Nothing where y hasn't a number for each row, or one beyond ±16,777,216.
 pub fn refutes<T: Table>(a: &T, terms: &Terms, y: &[i64]) -> Option<bool>
     ensures value { (g : Grid) → result ≡ answer (many_within (vec_len terms.now.lo) 16777216 y.now)
-        (refuting (problem_of g (T.Table.meant a.now) terms.now) (places y.now)) }
+        (int_lt (most_allowed (problem_of g (T.Table.meant a.now) terms.now) (places y.now))
+        (least_needed (problem_of g (T.Table.meant a.now) terms.now) (places y.now))) }
     ensures law { (g : Grid) → IfSome result (λ b. Decides b (Refutes (problem_of g (T.Table.meant a.now) terms.now) (places y.now))) }
     ensures sound { (g : Grid) → IfSome result (LeavesNone (problem_of g (T.Table.meant a.now) terms.now)) }
 {

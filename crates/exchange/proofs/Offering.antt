@@ -8,7 +8,7 @@ use Rattle.duality.proofs.Sizes.{sizes}
 use Rattle.std.specs.List.{range_with_len}
 use Rattle.duality.specs.Lists.{places}
 use Rattle.duality.specs.Problem.{Problem}
-use Rattle.job.specs.Bounds.{InBounds, held}
+use Rattle.job.specs.ProblemBounds.{InBounds, held}
 use Rattle.job.specs.Numbers.{problem_of}
 use Rattle.duality.specs.Tests.{within, all_within}
 use Rattle.job.specs.declared.numbers.Job.{Job}
@@ -18,7 +18,7 @@ use Rattle.elimination.specs.Nearest.{nearest}
 use Rattle.exchange.specs.Breaches.{same}
 use Rattle.exchange.specs.Rounding.{pulled}
 use Rattle.exchange.specs.Offers.{filled, inside_bounds, inside_limit, pressure_of, multipliers, pulls_of, pressures_of, offered}
-use Rattle.exchange.specs.Steps.{OffersInside}
+use Rattle.exchange.specs.ProblemOffers.{OffersInside}
 use Rattle.exchange.specs.declared.members.Limit.{Limit}
 use Rattle.exchange.specs.declared.members.Limit.TheVariants.{Row}
 use Rattle.exchange.specs.declared.members.Member.{Member}

@@ -1,25 +1,17 @@
-//! Reads a job card on standard input, solves its job and prints what the plan shows then, or why the card is refused.
+//! Reads a job card on standard input and says what it holds, or why it is refused.
 #![tactic(auto)]
 
 ghost use Rattle.std.specs.Prelude.{◌≤◌, length, IfOk};
-ghost use Rattle.hang.specs.Solved.{Solved};
 
 use anyhow::anyhow;
-use opening::Refusal;
-use print::{print_plan, print_refusal};
-use sheet::load;
-use std::alloc::Global;
+use card::{CardTable, Kind, Section, Sizes, check_card};
+use std::alloc::{AllocError, Global};
 use std::io;
-use std::io::{Read, Write};
+use std::io::Read;
+use table::Table;
 
 /// One byte more than the longest card, so that a longer one is seen to be too long.
 const MOST: usize = 7681;
-
-/// Steps of the exchange.
-const STEPS: u64 = 1_000;
-
-/// Moves of the walk.
-const MOVES: u64 = 100_000;
 
 /// Reads up to the end of the input or of the buffer, and answers how many bytes came.
 fn fill(input: &mut impl Read, buffer: &mut [u8]) -> io::Result<usize>
@@ -36,29 +28,66 @@ fn fill(input: &mut impl Read, buffer: &mut [u8]) -> io::Result<usize>
     Ok(len)
 }
 
-/// Solves the job of a card, and writes what the plan shows then into a list of bytes.
-fn solve_card(heap: Global, card: &[u8], out: &mut [u8]) -> Result<usize, Refusal>
-    ensures value { Solved card.now out.old out.new result }
-    ensures fits { IfOk result (λ n. n ≤ length out.old) }
-{
-    let mut plan = load(heap, card)?;
-    let report = plan.solve(heap, STEPS, MOVES)?;
-    print_plan(&plan, &report, out)
+/// Prints the sizes of a card, and of each section its letter, its first block and how many numbers it has.
+fn print_sections(rt: &HostRuntime, card: &[u8], sizes: &Sizes) -> io::Result<()> {
+    let ropes = sizes.ropes();
+    let rows = sizes.rows();
+    println!(rt; "ropes {ropes} rows {rows}")?;
+    let mut first: u16 = 0;
+    for _ in 0..7 {
+        let Some(section) = Section::at(card, first, sizes) else {
+            break;
+        };
+        let letter = char::from(section.kind().letter());
+        let count = sizes.count(section.kind());
+        println!(rt; "{letter} {first} {count}")?;
+        first = first.saturating_add((section.bytes().len() / 512).min(15) as u16);
+    }
+    Ok(())
+}
+
+/// The lower bounds of the ropes, as the card's section B has them.
+fn lower_bounds(heap: Global, card: &[u8], sizes: &Sizes) -> Result<Vec<i64>, AllocError> {
+    let mut lower = Vec::new(heap);
+    let Some(section) = Section::at(card, sizes.first(Kind::Bounds), sizes) else {
+        return Ok(lower);
+    };
+    for j in 0..sizes.ropes() {
+        if let Some(z) = section.value(j) {
+            lower.push(z as i64)?;
+        }
+    }
+    Ok(lower)
+}
+
+/// Prints the sum of each row at the lower bounds, or `blank` where the card has no such sum.
+fn print_sums(rt: &HostRuntime, card: &[u8], lower: &[i64]) -> io::Result<()> {
+    let table = CardTable::rows(card);
+    for i in 0..table.height() {
+        match table.product(i, lower) {
+            Some(sum) => println!(rt; "row {i} sum {sum}")?,
+            None => println!(rt; "row {i} blank")?,
+        }
+    }
+    Ok(())
 }
 
 fn run(rt: &HostRuntime) -> anyhow::Result<()> {
     let mut buffer = vec![in rt.alloc(); 0u8; MOST]?;
     let len = fill(&mut rt.stdin(), buffer.as_mut_slice())?;
-    let mut text = [0u8; 320];
-    match solve_card(rt.alloc(), &buffer.as_slice()[0..len], &mut text) {
-        Ok(bytes) => {
-            rt.stdout().write_all(&text[0..bytes])?;
+    let card = &buffer.as_slice()[0..len];
+    match check_card(card) {
+        Ok(sizes) => {
+            print_sections(rt, card, &sizes)?;
+            let lower = lower_bounds(rt.alloc(), card, &sizes)?;
+            print_sums(rt, card, lower.as_slice())?;
             Ok(())
         }
-        Err(refusal) => {
-            if let Ok(bytes) = print_refusal(&refusal, &mut text) {
-                rt.stdout().write_all(&text[0..bytes])?;
-            }
+        Err(fault) => {
+            let notice = fault.notice();
+            let number = notice.number;
+            let place = notice.first;
+            println!(rt; "refused {number} at {place}")?;
             Err(anyhow!("the card is refused"))
         }
     }

@@ -1,26 +1,18 @@
 -- Points inside their bounds.
-use Rattle.std.specs.Prelude.{◌≡◌, ℕ, ◌<◌, Bool, cond, ◌&&◌, List, map, length, ℤ, ◌≤ℤ◌, ◌==◌}
-use Rattle.std.specs.List.{range_with_len}
-use Rattle.std.specs.Int.{int_max, int_min}
-use Rattle.duality.specs.Lists.{places}
-use Rattle.duality.specs.Problem.{Problem}
-use Rattle.duality.specs.Tests.{all, between}
+use Rattle.std.specs.Prelude.{Bool, List, ℤ}
+pub use Rattle.job.specs.ProblemBounds.{held}
+use Rattle.job.specs.ProblemBounds.{InBounds as InBoundsOf, is_in_bounds as is_in_bounds_of, clamped as clamped_of}
+use Rattle.job.specs.Numbers.{problem_of}
+use Rattle.job.specs.declared.numbers.Job.{Job}
 
 -- a number for each rope, within its bounds
-pub record InBounds (P : Problem) (z : List ℤ) : Type 0 where
-  pub long : length z ≡ P.ropes
-  pub not_below : (k : ℕ) → k < P.ropes → P.l k ≤ℤ places z k
-  pub not_above : (k : ℕ) → k < P.ropes → places z k ≤ℤ P.u k
+abbrev pub InBounds : Job → List ℤ → Type 0
+InBounds j z = InBoundsOf (problem_of j) z
 
 -- the same as a test
-abbrev pub is_in_bounds : Problem → List ℤ → Bool
-is_in_bounds P z = length z == P.ropes && all (λ k. between (P.l k) (P.u k) (places z k)) P.ropes
-
--- the number of low .. high that lies nearest to x
-abbrev pub held : ℤ → ℤ → ℤ → ℤ
-held low high x = int_max low (int_min high x)
+abbrev pub is_in_bounds : Job → List ℤ → Bool
+is_in_bounds j z = is_in_bounds_of (problem_of j) z
 
 -- z with each number held inside its bounds; a list of another length stays
-abbrev pub clamped : Problem → List ℤ → List ℤ
-clamped P z =
-    cond (length z == P.ropes) (map (λ k. held (P.l k) (P.u k) (places z k)) (range_with_len 0 P.ropes)) z
+abbrev pub clamped : Job → List ℤ → List ℤ
+clamped j z = clamped_of (problem_of j) z

@@ -1,7 +1,6 @@
 //! Points and their bounds.
 ghost use Rattle.std.specs.Prelude.{◌≡◌, true, length, Decides, ◌==◌};
 ghost use Rattle.job.specs.Bounds.{held as held_of, clamped, is_in_bounds, InBounds};
-ghost use Rattle.job.specs.Numbers.{problem_of};
 
 use crate::judges::between;
 use crate::numbers::Job;
@@ -16,8 +15,8 @@ fn held(low: i64, high: i64, x: i64) -> i64
 impl Job {
     /// Whether z has a number for each rope, within its bounds.
     pub fn in_bounds(&self, z: &[i64]) -> bool
-        ensures value { result ≡ is_in_bounds (problem_of self.now) z.now }
-        ensures law { Decides result (InBounds (problem_of self.now) z.now) }
+        ensures value { result ≡ is_in_bounds self.now z.now }
+        ensures law { Decides result (InBounds self.now z.now) }
     {
         if z.len() != self.ropes {
             return false;
@@ -33,8 +32,8 @@ impl Job {
     /// Holds each number of z inside its rope's bounds. A list of another length stays as it is, and the answer is false.
     pub fn clamp(&self, z: &mut [i64]) -> bool
         ensures value { result ≡ (length z.old == self.now.ropes) }
-        ensures after { z.new ≡ clamped (problem_of self.now) z.old }
-        ensures law { result ≡ true → InBounds (problem_of self.now) z.new }
+        ensures after { z.new ≡ clamped self.now z.old }
+        ensures law { result ≡ true → InBounds self.now z.new }
     {
         if z.len() != self.ropes {
             return false;

@@ -2,7 +2,7 @@
 use Rattle.std.proofs.Common.{◌≡◌, Bool, true, false, not, ◌&&◌, List, ℤ, None, Ok, Option, Result, sym, refl, ap, ◌∙◌}
 use Rattle.duality.specs.Lists.{places}
 use Rattle.opening.specs.declared.refusal.Refusal.{Refusal}
-use Rattle.evaluate.specs.Terms.{Numbers, stated}
+use Rattle.evaluate.specs.Stated.{Numbers, stated}
 use Rattle.evaluate.specs.Findings.{feasible}
 use Rattle.evaluate.specs.Floors.{refuting}
 use Rattle.calls.specs.declared.answers.Amendment.{Amendment}

@@ -9,7 +9,8 @@ use Rattle.table.specs.Grid.{Grid, height_of}
 use Rattle.opening.specs.Opening.{Numbers, open_fault}
 use Rattle.opening.specs.Fits.{Fits, Near, Ordered}
 use Rattle.opening.proofs.Fitting.{tells_fit}
-use Rattle.evaluate.specs.Terms.{numbers, sizes, limited, fitting}
+use Rattle.evaluate.specs.Terms.{sizes, limited}
+use Rattle.evaluate.specs.Stated.{numbers, fitting}
 
 near_all : (limit : ℕ) (xs : List ℤ) → Near limit xs → all_within limit xs ≡ true
 near_all limit xs h = all_from (λ k. within limit (places xs k)) (length xs) (λ k l. le-leb _ _ (h k l))

@@ -3,15 +3,15 @@ use Rattle.std.proofs.Common.{◌≡◌, ℕ, suc, ◌+◌, ◌-◌, ◌<◌, �
 use lib.Ieee.{Float}
 use Rattle.duality.specs.Problem.{Problem}
 use Rattle.elimination.specs.Lines.{largest}
-use Rattle.evaluate.specs.Terms.{Numbers}
-use Rattle.job.specs.Bounds.{is_in_bounds}
+use Rattle.evaluate.specs.Stated.{Numbers}
+use Rattle.job.specs.ProblemBounds.{is_in_bounds}
 use Rattle.job.proofs.Holding.{in_bounds_in}
 use Rattle.exchange.specs.declared.members.Offer.{Offer as Found}
 use Rattle.exchange.specs.declared.members.Choice.{Choice}
 use Rattle.exchange.specs.declared.members.Member.{Member}
 use Rattle.exchange.specs.declared.members.Step.{Step}
 use Rattle.exchange.specs.declared.members.Step.TheVariants as step
-use Rattle.exchange.specs.Steps.{OffersInside}
+use Rattle.exchange.specs.ProblemOffers.{OffersInside}
 use Rattle.exchange.specs.Runs.{Run, stepped, offers_of, run_from, exchanged}
 use Rattle.exchange.proofs.Running.{run_starts}
 use Rattle.calls.specs.States.{State, Pair}

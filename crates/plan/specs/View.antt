@@ -1,7 +1,7 @@
 -- A plan as the state that it stands for.
 use Rattle.std.specs.Prelude.{Bool, cond, List, ℤ, Some, None, vec_items, Option}
 use Rattle.table.specs.Grid.{Grid}
-use Rattle.evaluate.specs.Terms.{numbers_of}
+use Rattle.evaluate.specs.Stated.{numbers_of}
 use Rattle.calls.specs.States.{State}
 use Rattle.plan.specs.declared.state.Plan.{Plan}
 

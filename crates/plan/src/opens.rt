@@ -1,7 +1,7 @@
 //! Opening a plan.
 ghost use Rattle.std.specs.Prelude.{◌≡◌, replicate, pos, IfOk, Some};
 ghost use Rattle.opening.specs.Opening.{numbers_of};
-ghost use Rattle.evaluate.specs.Terms.{numbers, numbers_of as terms_of, fitting};
+ghost use Rattle.evaluate.specs.Stated.{numbers, numbers_of as terms_of, fitting};
 ghost use Rattle.calls.specs.Opened.{Opens};
 ghost use Rattle.plan.specs.View.{view};
 

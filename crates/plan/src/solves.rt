@@ -3,13 +3,13 @@ ghost use Rattle.std.specs.Prelude.{◌≡◌, true, length, IfOk};
 ghost use Rattle.std.specs.Option.{unwrap_or};
 ghost use Rattle.duality.specs.Lists.{places};
 ghost use Rattle.duality.specs.Tests.{many_within};
-ghost use Rattle.job.specs.Bounds.{is_in_bounds};
+ghost use Rattle.job.specs.ProblemBounds.{is_in_bounds};
 ghost use Rattle.job.specs.Numbers.{problem_of};
 ghost use Rattle.job.specs.Rows.{judged};
 ghost use Rattle.exchange.specs.Runs.{offers_of, exchanged};
-ghost use Rattle.walk.specs.Laws.{Lawful};
+ghost use Rattle.walk.specs.ProblemLaws.{Lawful};
 ghost use Rattle.walk.specs.Running.{Sized};
-ghost use Rattle.walk.specs.Walks.{ended, walk_from};
+ghost use Rattle.walk.specs.ProblemWalks.{ended, walk_from};
 ghost use Rattle.calls.specs.Offers.{took_all};
 ghost use Rattle.calls.specs.Solving.{solve_refusal, written, found_offers, last_found, if_met, solve_offers, report, Solves, LawfulSolve};
 ghost use Rattle.plan.specs.Solves.{Fresh, Reports};
@@ -23,7 +23,7 @@ use opening::Refusal;
 use reading::read_job;
 use std::alloc::Global;
 use table::Table;
-use walk::{Room, Walked, walk};
+use walk::{Room, Walked, walk_in};
 
 const MOST_STEPS: u64 = 1_000;
 
@@ -48,7 +48,7 @@ fn walk_from(job: &Job, room: &mut Room, at: &mut [i64], budget: u32) -> Walked
     ensures value { ended at.new result ≡ walk_from (problem_of job.now) budget at.old }
     ensures law { Lawful (problem_of job.now) budget at.old at.new result }
 {
-    match walk(room, job, at, budget) {
+    match walk_in(room, job, at, budget) {
         Ok(walked) => walked,
         Err(_) => unreachable(),
     }

@@ -5,7 +5,7 @@ use Rattle.table.specs.Grid.{Grid, matrix_of}
 use Rattle.table.specs.Layers.{flipped}
 use Rattle.table.proofs.Bounds.{matrix_near}
 use Rattle.table.proofs.Swaps.{flipped_place}
-use Rattle.evaluate.specs.Terms as terms
+use Rattle.evaluate.specs.Stated as terms
 use Rattle.evaluate.specs.declared.terms.Terms.{Terms}
 use Rattle.job.specs.Numbers.{Numbers, numbers, numbers_of, problem, problem_of, sized, limited, fitting}
 use Rattle.job.specs.declared.numbers.Job.{Job}

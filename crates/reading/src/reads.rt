@@ -2,7 +2,8 @@
 ghost use Rattle.std.specs.Prelude.{◌≡◌, ◌≤◌, ◌++◌, map, IfOk, Some, OnOk};
 ghost use Rattle.std.specs.List.{range_with_len};
 ghost use Rattle.table.specs.Grid.{matrix_of};
-ghost use Rattle.evaluate.specs.Terms.{numbers_of as terms_of, problem_of as stated};
+ghost use Rattle.evaluate.specs.Terms.{problem_of as stated};
+ghost use Rattle.evaluate.specs.Stated.{numbers_of as terms_of};
 ghost use Rattle.job.specs.Numbers.{fitting, numbers, numbers_of, problem_of};
 ghost use Rattle.reading.specs.Plain.{listed, plain, Agrees, SamePoints};
 

@@ -1,7 +1,7 @@
 //! Amendments of the terms.
 ghost use Rattle.std.specs.Prelude.{◌≡◌, true, None, nat_lt};
 ghost use Rattle.duality.specs.Tests.{within};
-ghost use Rattle.evaluate.specs.Terms.{numbers_of};
+ghost use Rattle.evaluate.specs.Stated.{numbers_of};
 ghost use Rattle.calls.specs.Refusing.{ordered as ordered_of, unless_allowed, amend_refusal};
 ghost use Rattle.calls.specs.Steps.{amendment as amendment_of, if_allowed};
 

@@ -14,7 +14,7 @@ use std::alloc::{AllocError, Global};
 use std::io;
 use std::io::{BufRead, BufReader};
 use std::num::nearest_i64_to_f64;
-use walk::{End, Room, Walked, walk};
+use walk::{End, Walked, walk};
 
 fn numbers(heap: Global, line: &str) -> anyhow::Result<Vec<i64>> {
     let mut numbers = Vec::new(heap);
@@ -137,14 +137,12 @@ fn read_case(heap: Global, line: &mut Line) -> Result<Option<Case>, AllocError> 
     }
 }
 
-fn run_walk(rt: &HostRuntime, heap: Global, mut case: Case) -> anyhow::Result<()> {
+fn run_walk(rt: &HostRuntime, heap: Global, mut case: Case) -> io::Result<()> {
     let budget = u32::try_from(case.budget).unwrap_or(0);
-    let mut room = Room::new(heap, &case.job)?;
-    match walk(&mut room, &case.job, case.point.as_mut_slice(), budget) {
-        Ok(walked) => print_walk(rt, &walked, case.point.as_slice())?,
-        Err(_) => println!(rt; "no walk")?,
+    match walk(heap, &case.job, case.point.as_mut_slice(), budget) {
+        Ok(walked) => print_walk(rt, &walked, case.point.as_slice()),
+        Err(_) => println!(rt; "no walk"),
     }
-    Ok(())
 }
 
 fn print_report(rt: &HostRuntime, report: &Report) -> io::Result<()> {
@@ -196,7 +194,8 @@ fn run_case(rt: &HostRuntime, heap: Global, kind: i64, line: &mut Line) -> anyho
         return Ok(());
     };
     if kind == 0 {
-        run_walk(rt, heap, case)
+        run_walk(rt, heap, case)?;
+        Ok(())
     } else {
         run_exchange(rt, heap, &case)
     }

@@ -2,12 +2,12 @@
 use Rattle.std.proofs.Common.{◌≡◌, ℕ, ◌+◌, ◌<◌, Bool, true, false, cond, List, ◌∷◌, ℤ, Some, sym, ap, ◌∙◌, subst}
 use Rattle.duality.specs.Lists.{places}
 use Rattle.duality.specs.Problem.{Problem}
-use Rattle.job.specs.Bounds.{InBounds}
+use Rattle.job.specs.ProblemBounds.{InBounds}
 use Rattle.job.specs.declared.numbers.Job.{Job}
-use Rattle.walk.specs.Lowering.{lowers}
+use Rattle.walk.specs.ProblemLowering.{lowers}
 use Rattle.walk.specs.Moves.{sizes, of_rope, after}
 use Rattle.walk.specs.Running.{Tracks}
-use Rattle.walk.specs.Walks.{first}
+use Rattle.walk.specs.ProblemWalks.{first}
 use Rattle.walk.specs.declared.moves.Move.{Move}
 use Rattle.walk.specs.declared.room.Room.{Room}
 use Rattle.walk.proofs.Firsts.{left_of, left_more, first_yes, first_no}

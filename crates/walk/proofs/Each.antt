@@ -4,7 +4,7 @@ use Rattle.std.specs.List.{range_with_len, flat_map}
 use Rattle.std.proofs.lemmas.Bool.{cases_eq, cases_Bool}
 use Rattle.duality.specs.Lists.{places}
 use Rattle.walk.specs.Moves.{sizes, both_ways, of_rope, candidates}
-use Rattle.walk.specs.Walks.{first}
+use Rattle.walk.specs.ProblemWalks.{first}
 use Rattle.walk.specs.declared.moves.Move.{Move}
 use Rattle.walk.proofs.Sizes.{sizes_long}
 use Rattle.walk.proofs.Firsts.{first_yes, first_no}

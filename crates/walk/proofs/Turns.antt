@@ -5,7 +5,7 @@ use Rattle.std.proofs.lemmas.Bool.{cond_both}
 use Rattle.duality.specs.Problem.{Problem}
 use Rattle.duality.proofs.Sizes.{nat_abs_neg}
 use Rattle.walk.specs.Moves.{after, step_of}
-use Rattle.walk.specs.Walks.{first_move, Ended, one_more, onward, walk_from}
+use Rattle.walk.specs.ProblemWalks.{first_move, Ended, one_more, onward, walk_from}
 use Rattle.walk.specs.declared.moves.Move.{Move}
 use Rattle.walk.specs.declared.ends.End.TheVariants.{Settled, Spent}
 use Rattle.walk.proofs.AlongRopes.{either_stands}

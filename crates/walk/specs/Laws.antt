@@ -1,46 +1,29 @@
 -- What every walk keeps to, in the words of the problem.
-use Rattle.std.specs.Prelude.{◌≡◌, ℕ, zero, suc, ◌≤◌, true, false, ◌⊎◌, List, ℤ, ◌≤ℤ◌, ◌<ℤ◌, Ok, Err, Result}
-use Rattle.duality.specs.Lists.{places}
-use Rattle.duality.specs.Sums.{Vector}
-use Rattle.duality.specs.Problem.{Problem, cost}
-use Rattle.job.specs.Bounds.{InBounds, is_in_bounds}
-use Rattle.job.specs.Numbers.{has_sizes}
-use Rattle.job.specs.Rows.{outside}
-use Rattle.walk.specs.Moves.{after}
-use Rattle.walk.specs.Lowering.{Below, Step}
+pub use Rattle.walk.specs.ProblemLaws.{NoWorse}
+use Rattle.std.specs.Prelude.{◌≡◌, ℕ, true, false, List, ℤ, Ok, Err, Result}
+use Rattle.job.specs.Bounds.{is_in_bounds}
+use Rattle.job.specs.Numbers.{problem_of}
+use Rattle.job.specs.declared.numbers.Job.{Job}
+use Rattle.walk.specs.ProblemLaws.{Descent as DescentOf, Downhill as DownhillOf, Lawful as LawfulOf}
 use Rattle.walk.specs.Walks.{walk_from, ended}
-use Rattle.walk.specs.declared.moves.Move.{Move}
 use Rattle.walk.specs.declared.ends.Walked.{Walked}
 use Rattle.walk.specs.declared.ends.Unwalked.{Unwalked}
-use Rattle.walk.specs.declared.ends.Unwalked.TheVariants.{OutOfBounds, OtherSizes}
-use Rattle.walk.specs.declared.ends.End.TheVariants.{Settled, Spent}
+use Rattle.walk.specs.declared.ends.Unwalked.TheVariants.{OutOfBounds, NoMemory}
 
 -- a move from z that may be made and lowers
-abbrev pub Descent : Problem → List ℤ → Type 0
-Descent P z = (m : Move) × Step P z m × Below P (places z) (places (after z m))
+abbrev pub Descent : Job → List ℤ → Type 0
+Descent j z = DescentOf (problem_of j) z
 
 -- n such moves lead from z to y
-abbrev pub Downhill : Problem → List ℤ → ℕ → List ℤ → Type 0
-Downhill P z zero y = z ≡ y
-Downhill P z (suc n) y = (d : Descent P z) × Downhill P (after z d.0) n y
-
--- y is no worse than z
-abbrev pub NoWorse : Problem → Vector → Vector → Type 0
-NoWorse P z y = (outside P y <ℤ outside P z) ⊎ ((outside P y ≡ outside P z) × (cost P y ≤ℤ cost P z))
+abbrev pub Downhill : Job → List ℤ → ℕ → List ℤ → Type 0
+Downhill j z n y = DownhillOf (problem_of j) z n y
 
 -- a walk from z to y
-pub record Lawful (P : Problem) (budget : ℕ) (z y : List ℤ) (w : Walked) : Type 0 where
-  -- each move taken lowers, and the count is that of the moves taken
-  pub descends : Downhill P z w.moves y
-  pub within_budget : w.moves ≤ budget
-  pub in_bounds : InBounds P y
-  pub no_worse : NoWorse P (places z) (places y)
-  -- settled means that no move lowers; spent, that one does and the budget is used
-  pub settled : w.end ≡ Settled → Descent P y → ⊥
-  pub spent : w.end ≡ Spent → (w.moves ≡ budget) × Descent P y
+abbrev pub Lawful : Job → (budget : ℕ) → (z y : List ℤ) → Walked → Type 0
+Lawful j budget z y w = LawfulOf (problem_of j) budget z y w
 
--- how the call answers, with room for n ropes and m rows, and with the point z before and y after it
-abbrev pub Outcome : Problem → (n m budget : ℕ) → List ℤ → List ℤ → Result Walked Unwalked → Type 0
-Outcome P n m budget z y (Ok w) = (has_sizes P n m ≡ true) × (is_in_bounds P z ≡ true) × (ended y w ≡ walk_from P budget z)
-Outcome P n m budget z y (Err OtherSizes) = (has_sizes P n m ≡ false) × (y ≡ z)
-Outcome P n m budget z y (Err OutOfBounds) = (has_sizes P n m ≡ true) × (is_in_bounds P z ≡ false) × (y ≡ z)
+-- how the call answers, with the point z before and y after it
+abbrev pub Outcome : Job → ℕ → List ℤ → List ℤ → Result Walked Unwalked → Type 0
+Outcome j budget z y (Ok w) = (is_in_bounds j z ≡ true) × (ended y w ≡ walk_from j budget z)
+Outcome j budget z y (Err OutOfBounds) = (is_in_bounds j z ≡ false) × (y ≡ z)
+Outcome j budget z y (Err NoMemory) = (is_in_bounds j z ≡ true) × (y ≡ z)

@@ -1,44 +1,14 @@
--- The walk: the first move that lowers is made, and the search starts again.
-use Rattle.std.specs.Prelude.{ℕ, zero, suc, ◌+◌, Bool, cond, List, [], ◌∷◌, ℤ, is_some, Some, None, Option}
-use Rattle.duality.specs.Problem.{Problem}
-use Rattle.walk.specs.Moves.{after, candidates}
-use Rattle.walk.specs.Lowering.{lowers}
+-- A search, and a walk from search to search.
+pub use Rattle.walk.specs.ProblemWalks.{first, moved, Ended, one_more, onward, ended}
+use Rattle.std.specs.Prelude.{ℕ, List, ℤ, Option}
+use Rattle.job.specs.Numbers.{problem_of}
+use Rattle.job.specs.declared.numbers.Job.{Job}
+use Rattle.walk.specs.ProblemWalks.{first_move as first_move_of, walk_from as walk_from_of}
 use Rattle.walk.specs.declared.moves.Move.{Move}
-use Rattle.walk.specs.declared.ends.Walked.{Walked}
-use Rattle.walk.specs.declared.ends.End.{End}
-use Rattle.walk.specs.declared.ends.End.TheVariants.{Settled, Spent}
 
--- the first of a list that passes
-unfoldable pub first : (Move → Bool) → List Move → Option Move
-first t [] = None
-first t (m ∷ ms) = cond (t m) (Some m) (first t ms)
-
-unfoldable pub first_move : Problem → List ℤ → Option Move
-first_move P z = first (lowers P z) (candidates P.ropes)
-
--- the point after a search
-abbrev pub moved : Option Move → List ℤ → List ℤ
-moved None z = z
-moved (Some m) z = after z m
-
--- where a walk ends, after how many moves, and why
-pub record Ended : Type 0 where
-  pub point : List ℤ
-  pub moves : ℕ
-  pub end : End
-
-abbrev pub one_more : Ended → Ended
-one_more w = record { point = w.point; moves = w.moves + 1; end = w.end }
-
-abbrev pub onward : (List ℤ → Ended) → List ℤ → Option Move → Ended
-onward go z None = record { point = z; moves = 0; end = Settled }
-onward go z (Some m) = one_more (go (after z m))
+abbrev pub first_move : Job → List ℤ → Option Move
+first_move j z = first_move_of (problem_of j) z
 
 -- from z, with so many moves left
-unfoldable pub walk_from : Problem → ℕ → List ℤ → Ended
-walk_from P zero z = record { point = z; moves = 0; end = cond (is_some (first_move P z)) Spent Settled }
-walk_from P (suc b) z = onward (walk_from P b) z (first_move P z)
-
--- what the call answers, beside the point that it leaves
-abbrev pub ended : List ℤ → Walked → Ended
-ended z w = record { point = z; moves = w.moves; end = w.end }
+abbrev pub walk_from : Job → ℕ → List ℤ → Ended
+walk_from j budget z = walk_from_of (problem_of j) budget z

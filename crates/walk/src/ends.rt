@@ -20,6 +20,14 @@ pub struct Walked {
 pub enum Unwalked {
     /// The list has another length than there are ropes, or a number outside its bounds.
     OutOfBounds,
+    NoMemory,
+}
+
+/// Why no walk was made in the room that was handed over. The point stands as it was.
+#[derive(Clone, Copy)]
+pub enum Unfit {
+    /// The list has another length than there are ropes, or a number outside its bounds.
+    OutOfBounds,
     /// The room was made for another number of ropes or rows.
     OtherSizes,
 }

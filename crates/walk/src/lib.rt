@@ -12,6 +12,6 @@ mod searches;
 mod tries;
 mod walks;
 
-pub use ends::{End, Unwalked, Walked};
+pub use ends::{End, Unfit, Unwalked, Walked};
 pub use room::Room;
-pub use walks::walk;
+pub use walks::{walk, walk_in};

@@ -1,9 +1,9 @@
 //! One move tried: the rope goes back unless the move lowers and may be made.
 ghost use Rattle.std.specs.Prelude.{◌≡◌, ◌<◌, ◌≤◌, false, ◌-ℤ◌, if◌then◌else◌, unsigned_abs};
-ghost use Rattle.job.specs.Bounds.{InBounds};
+ghost use Rattle.job.specs.ProblemBounds.{InBounds};
 ghost use Rattle.job.specs.Numbers.{problem_of};
 ghost use Rattle.duality.specs.Tests.{between as between_of};
-ghost use Rattle.walk.specs.Lowering.{lowers};
+ghost use Rattle.walk.specs.ProblemLowering.{lowers};
 ghost use Rattle.walk.specs.Moves.{after as after_move};
 ghost use Rattle.walk.specs.Running.{Tracks, Tame, looks_lower};
 

@@ -1,16 +1,18 @@
 //! The walk itself.
 ghost use Rattle.std.specs.Prelude.{◌≡◌, IfOk};
-ghost use Rattle.job.specs.Bounds.{InBounds};
+ghost use Rattle.job.specs.ProblemBounds.{InBounds};
 ghost use Rattle.job.specs.Numbers.{problem_of};
 ghost use Rattle.walk.specs.Laws.{Outcome, Lawful};
+ghost use Rattle.walk.specs.ProblemLaws.{Outcome as OutcomeIn, Lawful as LawfulIn};
 ghost use Rattle.walk.specs.Running.{Sized, ropes_in, rows_in, Tracks};
-ghost use Rattle.walk.specs.Walks.{walk_from, ended};
+ghost use Rattle.walk.specs.ProblemWalks.{walk_from, ended};
 
-use crate::ends::{End, Unwalked, Walked};
+use crate::ends::{End, Unfit, Unwalked, Walked};
 use crate::moves::step;
 use crate::room::Room;
 use crate::searches::search;
 use job::Job;
+use std::alloc::Global;
 
 /// Makes the first move that lowers, until none does or the budget is used.
 fn descend(job: &Job, z: &mut [i64], room: &mut Room, budget: u32) -> Walked
@@ -48,17 +50,34 @@ fn descend(job: &Job, z: &mut [i64], room: &mut Room, budget: u32) -> Walked
 ///
 /// Each move taken lowers: fewer ticks lie outside the rows, or as many at a lower cost. So the end is never worse than the start,
 /// and it never leaves the bounds. `Settled` says that no single move lowers any more, `Spent` that one does and the budget is used.
-/// No memory is taken. A refusal leaves the point as it stood, and the room has room for as much as before.
-pub fn walk(room: &mut Room, job: &Job, point: &mut [i64], budget: u32) -> Result<Walked, Unwalked>
-    ensures value { Outcome (problem_of job.now) (ropes_in room.old) (rows_in room.old) budget point.old point.new result }
-    ensures law { IfOk result (λ w. Lawful (problem_of job.now) budget point.old point.new w) }
+/// A refusal leaves the point as it stood.
+pub fn walk(heap: Global, job: &Job, point: &mut [i64], budget: u32) -> Result<Walked, Unwalked>
+    ensures value { Outcome job.now budget point.old point.new result }
+    ensures law { IfOk result (λ w. Lawful job.now budget point.old point.new w) }
+{
+    if !job.in_bounds(point) {
+        return Err(Unwalked::OutOfBounds);
+    }
+    let Ok(mut room) = Room::new(heap, job) else {
+        return Err(Unwalked::NoMemory);
+    };
+    room.start(job, point);
+    Ok(descend(job, point, &mut room, budget))
+}
+
+/// The same in room that was taken before, so that no memory is asked for.
+///
+/// A refusal leaves the point as it stood, and the room has room for as much as before.
+pub fn walk_in(room: &mut Room, job: &Job, point: &mut [i64], budget: u32) -> Result<Walked, Unfit>
+    ensures value { OutcomeIn (problem_of job.now) (ropes_in room.old) (rows_in room.old) budget point.old point.new result }
+    ensures law { IfOk result (λ w. LawfulIn (problem_of job.now) budget point.old point.new w) }
     ensures room { Sized (ropes_in room.old) (rows_in room.old) room.new }
 {
     if !room.is_for(job) {
-        return Err(Unwalked::OtherSizes);
+        return Err(Unfit::OtherSizes);
     }
     if !job.in_bounds(point) {
-        return Err(Unwalked::OutOfBounds);
+        return Err(Unfit::OutOfBounds);
     }
     room.start(job, point);
     Ok(descend(job, point, room, budget))

@@ -17,11 +17,11 @@ returns c =
     let v = c.args.limit in
     let fl : SFits w64 c.low-lower.result = search rules in
     let fh : SFits w64 c.high.result = search rules in
-    let fs : SFits w64 c.value-at-s.result = search rules in
+    let fs : SFits w64 c.value_at-s.result = search rules in
     let fe : SFits w64 c.excess.result = search rules in
     let l : back c.low-lower.result ≡ low P v = to_z-of_z w64 _ fl ∙ c.low-lower.ensures.value in
     let h : back c.high.result ≡ high P v = to_z-of_z w64 _ fh ∙ c.high.ensures.value in
-    let s : back c.value-at-s.result ≡ value_at P z v = to_z-of_z w64 _ fs ∙ c.value-at-s.ensures.value in
+    let s : back c.value_at-s.result ≡ value_at P z v = to_z-of_z w64 _ fs ∙ c.value_at-s.ensures.value in
     let t : back c.excess.result ≡ excess (low P v) (high P v) (value_at P z v) = to_z-of_z w64 _ fe ∙ c.excess.ensures ∙ rw (l, h, s) in
     let d : c.if-s-lower.side ≡ side_of (low P v) (value_at P z v) =
     elim c.if-s-lower.branch [

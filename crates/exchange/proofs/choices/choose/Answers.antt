@@ -23,11 +23,11 @@ returns-then-wrong-gt0 c =
     let f : SFits w64 c.worst-breach.result.ticks = search rules in
     let t : lt_z (pos 0) c.worst-breach.result.ticks ≡ false = rw (to_z-of_z w64 _ f) at c.if-breach-gt0.false in
     chosen_leave (problem_of c.args.job.now) c.args.members.now c.args.pulls.now c.args.pressures.now c.worst-breach.result c.worst-breach.ensures
-    c.most-wrong-wrong.result c.most-wrong-wrong.ensures t c.if-wrong-gt0.true
+    c.most_wrong-wrong.result c.most_wrong-wrong.ensures t c.if-wrong-gt0.true
 
 pub returns-else-wrong-gt0 : goal.returns-else-wrong-gt0
 returns-else-wrong-gt0 c =
     let f : SFits w64 c.worst-breach.result.ticks = search rules in
     let t : lt_z (pos 0) c.worst-breach.result.ticks ≡ false = rw (to_z-of_z w64 _ f) at c.if-breach-gt0.false in
     chosen_done (problem_of c.args.job.now) c.args.members.now c.args.pulls.now c.args.pressures.now c.worst-breach.result c.worst-breach.ensures
-    c.most-wrong-wrong.result c.most-wrong-wrong.ensures t c.if-wrong-gt0.false
+    c.most_wrong-wrong.result c.most_wrong-wrong.ensures t c.if-wrong-gt0.false

@@ -10,8 +10,8 @@ use Rattle.exchange.proofs.offers.fill_multipliers.Goals as goal
 pub loop-i-preserved : goal.loop-i-preserved
 loop-i-preserved c =
     let f : ℕ → ℤ = λ i. pressure_of c.args.members.now c.args.pressures.now (Row i) in
-    let fit : SFits w64 c.pressure-of.result = search rules in
-    let e : back c.pressure-of.result ≡ f c.loop-i.i = to_z-of_z w64 _ fit ∙ c.pressure-of.ensures in
+    let fit : SFits w64 c.pressure_of.result = search rules in
+    let e : back c.pressure_of.result ≡ f c.loop-i.i = to_z-of_z w64 _ fit ∙ c.pressure_of.ensures in
     let h : c.loop-i.i < length c.loop-i.multipliers = omega arith in
     rw e (fill_by_more f c.loop-i.multipliers c.loop-i.i (pos 0) h c.loop-i.invariant)
 

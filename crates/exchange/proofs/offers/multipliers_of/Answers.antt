@@ -12,5 +12,5 @@ returns c =
     let ms = c.args.members.now in
     let ys = c.args.pressures.now in
     let l = zeros_long (pos 0) 32 j.rows j.few in
-    filled_is 32 j.rows c.fill-multipliers.new.multipliers (multipliers (problem_of j) ms ys)
-    (c.fill-multipliers.auto.multipliers ∙ l) (c.fill-multipliers.ensures ∙ ap (λ (n : ℕ). map (λ i. pressure_of ms ys (Row i)) (range_with_len 0 n)) l)
+    filled_is 32 j.rows c.fill_multipliers.new.multipliers (multipliers (problem_of j) ms ys)
+    (c.fill_multipliers.auto.multipliers ∙ l) (c.fill_multipliers.ensures ∙ ap (λ (n : ℕ). map (λ i. pressure_of ms ys (Row i)) (range_with_len 0 n)) l)

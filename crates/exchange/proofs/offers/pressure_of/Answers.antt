@@ -8,9 +8,9 @@ use Rattle.exchange.proofs.offers.pressure_of.Goals as goal
 pub returns-then-same : goal.returns-then-same
 returns-then-same c =
     let ys = c.args.pressures.now in
-    let f : SFits w64 c.inside-limit.result = search rules in
+    let f : SFits w64 c.inside_limit.result = search rules in
     let g : SFits w64 (places ys c.loop-k.k) = search rules in
-    to_z-of_z w64 _ f ∙ c.inside-limit.ensures ∙ ap inside_limit (to_z-of_z w64 _ g)
+    to_z-of_z w64 _ f ∙ c.inside_limit.ensures ∙ ap inside_limit (to_z-of_z w64 _ g)
     ∙ sym (pressure_here c.args.members.now ys c.args.limit c.loop-k.k _ c.loop-k-test.true c.requires (sym c.if-same.ensures)) ∙ c.loop-k.invariant
 
 pub loop-k-preserved : goal.loop-k-preserved

@@ -8,5 +8,5 @@ returns c =
     let n = c.args.n in
     let m = c.args.m in
     let e : n + m - n ≡ m = omega arith in
-    filled_is 16 m c.round-pressures.new.pressures (pressed (take m (drop n c.args.unknowns.now)))
-    (c.round-pressures.auto.pressures ∙ zeros_long (pos 0) 16 m c.requires.members) (c.round-pressures.ensures ∙ ap (λ (k : ℕ). pressed (take k (drop n c.args.unknowns.now))) e)
+    filled_is 16 m c.round_pressures.new.pressures (pressed (take m (drop n c.args.unknowns.now)))
+    (c.round_pressures.auto.pressures ∙ zeros_long (pos 0) 16 m c.requires.members) (c.round_pressures.ensures ∙ ap (λ (k : ℕ). pressed (take k (drop n c.args.unknowns.now))) e)

@@ -7,5 +7,5 @@ use Rattle.exchange.proofs.offers.pulls_of.Goals as goal
 pub returns : goal.returns
 returns c =
     let n = c.args.n in
-    filled_is 16 n c.round-pulls.new.pulls (pulled (take n c.args.unknowns.now))
-    (c.round-pulls.auto.pulls ∙ zeros_long (pos 0) 16 n c.requires) (c.round-pulls.ensures ∙ ap (λ (k : ℕ). pulled (take k c.args.unknowns.now)) (sub-zero n))
+    filled_is 16 n c.round_pulls.new.pulls (pulled (take n c.args.unknowns.now))
+    (c.round_pulls.auto.pulls ∙ zeros_long (pos 0) 16 n c.requires) (c.round_pulls.ensures ∙ ap (λ (k : ℕ). pulled (take k c.args.unknowns.now)) (sub-zero n))

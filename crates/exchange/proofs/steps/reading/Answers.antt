@@ -19,19 +19,19 @@ choose-choice-requires c =
     let l = pulls_long n m X h in
     let k = pressures_long n m X h in
     record {
-      point = subst P (sym (front 16 n (pulled (take n X)) c.pulls-of-pulls.result l c.pulls-of-pulls.ensures)) (pulls_point n m X h c.requires.inside);
-      pressures = ap length (front 16 m (pressed (take m (drop n X))) c.pressures-of-pressures.result k c.pressures-of-pressures.ensures) ∙ k;
+      point = subst P (sym (front 16 n (pulled (take n X)) c.pulls_of-pulls.result l c.pulls_of-pulls.ensures)) (pulls_point n m X h c.requires.inside);
+      pressures = ap length (front 16 m (pressed (take m (drop n X))) c.pressures_of-pressures.result k c.pressures_of-pressures.ensures) ∙ k;
     }
 
-pub multipliers-of-multipliers-requires : goal.multipliers-of-multipliers-requires
-multipliers-of-multipliers-requires c =
+pub multipliers_of-multipliers-requires : goal.multipliers_of-multipliers-requires
+multipliers_of-multipliers-requires c =
     let j = c.args.job.now in
     let X = c.args.unknowns.now in
     let n = j.ropes in
     let m = length c.args.members.now in
     let h : n + m ≤ length X = omega (arith, j.some.1) in
     let k = pressures_long n m X h in
-    ap length (front 16 m (pressed (take m (drop n X))) c.pressures-of-pressures.result k c.pressures-of-pressures.ensures) ∙ k
+    ap length (front 16 m (pressed (take m (drop n X))) c.pressures_of-pressures.result k c.pressures_of-pressures.ensures) ∙ k
 
 pub returns : goal.returns
 returns c =
@@ -45,13 +45,13 @@ returns c =
     let us = take (n + m) X in
     let l = pulls_long n m X h in
     let k = pressures_long n m X h in
-    let x = front 16 n (pulled (take n X)) c.pulls-of-pulls.result l c.pulls-of-pulls.ensures in
-    let y = front 16 m (pressed (take m (drop n X))) c.pressures-of-pressures.result k c.pressures-of-pressures.ensures in
+    let x = front 16 n (pulled (take n X)) c.pulls_of-pulls.result l c.pulls_of-pulls.ensures in
+    let y = front 16 m (pressed (take m (drop n X))) c.pressures_of-pressures.result k c.pressures_of-pressures.ensures in
     record {
       offer =
-          offer_is Q ms us (pulled (take n X)) (pressed (take m (drop n X))) c.point-of-point.result c.multipliers-of-multipliers.result c.pulls-of-pulls.result
-          l (pulls_same n m X h) (pressures_same n m X h) c.pulls-of-pulls.ensures c.point-of-point.ensures (length-map-range_with_len _ 0 n)
-          (c.multipliers-of-multipliers.ensures ∙ ap (λ z. filled 32 (multipliers Q ms z)) y);
-      choice = c.choose-choice.ensures ∙ ap (λ z. chosen Q ms z (take (m - 0) c.pressures-of-pressures.result)) (x ∙ pulls_same n m X h) ∙ ap (λ z. chosen Q ms (pulls_of Q us) z)
+          offer_is Q ms us (pulled (take n X)) (pressed (take m (drop n X))) c.point_of-point.result c.multipliers_of-multipliers.result c.pulls_of-pulls.result
+          l (pulls_same n m X h) (pressures_same n m X h) c.pulls_of-pulls.ensures c.point_of-point.ensures (length-map-range_with_len _ 0 n)
+          (c.multipliers_of-multipliers.ensures ∙ ap (λ z. filled 32 (multipliers Q ms z)) y);
+      choice = c.choose-choice.ensures ∙ ap (λ z. chosen Q ms z (take (m - 0) c.pressures_of-pressures.result)) (x ∙ pulls_same n m X h) ∙ ap (λ z. chosen Q ms (pulls_of Q us) z)
           (y ∙ pressures_same n m X h);
     }

@@ -13,9 +13,9 @@ loop-k-preserved c =
     let j = c.args.job.now in
     let f : ℕ → Float = λ k. of_int binary64 (entry (problem_of j) c.args.members.now c.args.r k) in
     let fit : SFits w64 c.entry.result = search rules in
-    let e : c.nearest-i64-to-f64.result ≡ f c.loop-k.k = c.nearest-i64-to-f64.ensures ∙ ap (of_int binary64) (to_z-of_z w64 _ fit ∙ c.entry.ensures) in
+    let e : c.nearest_i64_to_f64.result ≡ f c.loop-k.k = c.nearest_i64_to_f64.ensures ∙ ap (of_int binary64) (to_z-of_z w64 _ fit ∙ c.entry.ensures) in
     let h : c.loop-k.k < length c.loop-k.line = omega (arith, c.loop-k.invariant.1) in
-    (rw e (fill_by_more f c.loop-k.line c.loop-k.k nan h c.loop-k.invariant.0), length-set c.loop-k.line c.loop-k.k c.nearest-i64-to-f64.result ∙ c.loop-k.invariant.1)
+    (rw e (fill_by_more f c.loop-k.line c.loop-k.k nan h c.loop-k.invariant.0), length-set c.loop-k.line c.loop-k.k c.nearest_i64_to_f64.result ∙ c.loop-k.invariant.1)
 
 pub returns : goal.returns
 returns c =

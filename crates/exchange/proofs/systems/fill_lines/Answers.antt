@@ -13,11 +13,11 @@ loop-r-preserved c =
     let w = length c.args.lines.now + 1 in
     let ls = c.loop-r.lines in
     let r = c.loop-r.r in
-    let x = c.fill-line.new.line in
+    let x = c.fill_line.new.line in
     let lt : r < length ls = omega arith in
     below_more _ _
     (λ i h. let ne : i ≢ r = omega arith in ap (take w) (get_or-set_other ls r i x [] ne) ∙ c.loop-r.invariant i h)
-    (ap (take w) (get_or-set_same ls r x [] lt) ∙ c.fill-line.ensures.value)
+    (ap (take w) (get_or-set_same ls r x [] lt) ∙ c.fill_line.ensures.value)
 
 pub returns : goal.returns
 unfolding system_of

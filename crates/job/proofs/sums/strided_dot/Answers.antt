@@ -5,8 +5,8 @@ use Rattle.job.specs.Strides.{strided}
 use Rattle.job.proofs.Strides.{sum_small, product_small, dot_more}
 use Rattle.job.proofs.sums.strided_dot.Goals as goal
 
-pub plus-product-sum-requires : goal.plus-product-sum-requires
-plus-product-sum-requires c =
+pub plus_product-sum-requires : goal.plus_product-sum-requires
+plus_product-sum-requires c =
     record {
       sum = sum_small _ _ _ _ c.requires c.loop-k.k _ c.loop-k-test.true c.loop-k.invariant;
       product = product_small _ _ _ _ c.requires c.loop-k.k;
@@ -14,8 +14,8 @@ plus-product-sum-requires c =
 
 pub loop-k-preserved : goal.loop-k-preserved
 loop-k-preserved c =
-    let f : SFits w64 c.plus-product-sum.result = search rules in
-    dot_more _ _ _ _ c.requires c.loop-k.k _ c.plus-product-sum.result f c.loop-k.invariant c.plus-product-sum.ensures
+    let f : SFits w64 c.plus_product-sum.result = search rules in
+    dot_more _ _ _ _ c.requires c.loop-k.k _ c.plus_product-sum.result f c.loop-k.invariant c.plus_product-sum.ensures
 
 pub returns : goal.returns
 returns c =

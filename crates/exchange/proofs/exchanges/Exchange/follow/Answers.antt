@@ -8,8 +8,8 @@ use Rattle.exchange.specs.declared.members.Member.{Member}
 use Rattle.exchange.proofs.Sets.{fitting_push, fitting_removed, apart_push, apart_removed}
 use Rattle.exchange.proofs.exchanges.Exchange.follow.Goals as goal
 
-pub invariant-of-self : goal.invariant-of-self
-invariant-of-self c =
+pub invariant_of-self : goal.invariant_of-self
+invariant_of-self c =
     let e = c.args.self.now in
     let ms = vec_items e.members in
     let w = c.in-Enter.member in
@@ -18,19 +18,17 @@ invariant-of-self c =
     let t : is_ok c.push.result ≡ true = c.push.ensures.succeeds (omega (arith, f.0, e.room, e.members.ok.0)) in
     let i : vec_items c.push.new.self ≡ ms ++ w ∷ [] = c.push.ensures.items ∙ rw t in
     let F : List Member → Type 0 = Fitting e.ropes e.rows in
-    let A : List Member → Type 0 = Apart in (
-      e.small,
-      (
-        omega (arith, f.0, c.push.ensures.upper-bound, e.members.ok.0),
-        (
-          omega (arith, c.push.ensures.capacity, e.room),
-          (subst F (sym i) (fitting_push e.ropes e.rows ms w e.fitting f.1), (subst A (sym i) (apart_push ms w e.apart f.2), tt)),
-        ),
-      ),
-    )
+    let A : List Member → Type 0 = Apart in
+    record {
+      small = e.small;
+      few = omega (arith, f.0, c.push.ensures.upper_bound, e.members.ok.0);
+      room = omega (arith, c.push.ensures.capacity, e.room);
+      fitting = subst F (sym i) (fitting_push e.ropes e.rows ms w e.fitting f.1);
+      apart = subst A (sym i) (apart_push ms w e.apart f.2);
+    }
 
-pub invariant-of-self-in-Leave : goal.invariant-of-self-in-Leave
-invariant-of-self-in-Leave c =
+pub invariant_of-self-in-Leave : goal.invariant_of-self-in-Leave
+invariant_of-self-in-Leave c =
     let e = c.args.self.now in
     let ms = vec_items e.members in
     let k = c.in-Leave.k in
@@ -38,13 +36,11 @@ invariant-of-self-in-Leave c =
     let f = subst P c.in-Leave.is c.requires in
     let i : vec_items c.remove.new.self ≡ remove ms k = c.remove.ensures.items in
     let F : List Member → Type 0 = Fitting e.ropes e.rows in
-    let A : List Member → Type 0 = Apart in (
-      e.small,
-      (
-        omega (arith, c.remove.ensures.len, e.few),
-        (
-          omega (arith, c.remove.ensures.capacity, e.room),
-          (subst F (sym i) (fitting_removed e.ropes e.rows ms k f e.fitting), (subst A (sym i) (apart_removed ms k f e.apart), tt)),
-        ),
-      ),
-    )
+    let A : List Member → Type 0 = Apart in
+    record {
+      small = e.small;
+      few = omega (arith, c.remove.ensures.len, e.few);
+      room = omega (arith, c.remove.ensures.capacity, e.room);
+      fitting = subst F (sym i) (fitting_removed e.ropes e.rows ms k f e.fitting);
+      apart = subst A (sym i) (apart_removed ms k f e.apart);
+    }

@@ -4,7 +4,8 @@ use Rattle.std.specs.Option.{option_map}
 use Rattle.job.specs.Numbers.{problem_of}
 use Rattle.elimination.specs.Lines.{padded, Solves}
 use Rattle.exchange.specs.Offers.{offered, pulls_of, pressures_of}
-use Rattle.exchange.specs.Steps.{Follows, choice_at, solved_at, OffersInside}
+use Rattle.exchange.specs.Steps.{Follows, choice_at, solved_at}
+use Rattle.exchange.specs.ProblemOffers.{OffersInside}
 use Rattle.exchange.specs.declared.members.Choice.{Choice}
 use Rattle.exchange.specs.declared.members.Member.{Member}
 use Rattle.exchange.specs.declared.members.Offer.{Offer}
@@ -15,11 +16,11 @@ use Rattle.exchange.proofs.Following.{chosen_follows}
 use Rattle.exchange.proofs.Stepping.{Pair, system_solved, none_from, some_from, array_inside, array_front, sizes_fit, step_refused, smallest_kept, step_stuck, step_found, smallest_noted}
 use Rattle.exchange.proofs.exchanges.Exchange.step.Goals as goal
 
-pub returns-then-not-is-for : goal.returns-then-not-is-for
-returns-then-not-is-for c =
+pub returns-then-not-is_for : goal.returns-then-not-is_for
+returns-then-not-is_for c =
     let e = c.args.self.now in
     let P = problem_of c.args.job.now in
-    let f = sym c.if-not-is-for.ensures in
+    let f = sym c.if-not-is_for.ensures in
     record {
       value = step_refused P e.ropes e.rows (vec_items e.members) e.smallest f;
       members = refl;
@@ -36,7 +37,7 @@ returns-in-None c =
     let j = c.args.job.now in
     let P = problem_of j in
     let ms = vec_items e.members in
-    let f = sym c.if-not-is-for.ensures in
+    let f = sym c.if-not-is_for.ensures in
     let z = sizes_fit P e.ropes e.rows ms e.smallest f in
     let h : j.ropes + length ms ≤ 32 = omega (arith, e.few, e.small, e.members.ok.0, z.0) in
     let q = system_solved P ms c.deref.result.now c.len.result e.smallest c.system.result c.deref.ensures.value (c.len.ensures ∙ e.members.ok.0) h c.system.ensures in
@@ -57,7 +58,7 @@ reading-choice-requires c =
     let j = c.args.job.now in
     let P = problem_of j in
     let ms = vec_items e.members in
-    let f = sym c.if-not-is-for.ensures in
+    let f = sym c.if-not-is_for.ensures in
     let z = sizes_fit P e.ropes e.rows ms e.smallest f in
     let h : j.ropes + length ms ≤ 32 = omega (arith, e.few, e.small, e.members.ok.0, z.0) in
     let q = system_solved P ms c.deref.result.now c.len.result e.smallest c.system.result c.deref.ensures.value (c.len.ensures ∙ e.members.ok.0) h c.system.ensures in
@@ -82,7 +83,7 @@ follow-requires c =
     let vs = c.deref-in-Some.result.now in
     let us = take (j.ropes + length vs) c.in-Some.unknowns in
     let ch = c.reading-choice.result.1 in
-    let z = sizes_fit P e.ropes e.rows ms e.smallest (sym c.if-not-is-for.ensures) in
+    let z = sizes_fit P e.ropes e.rows ms e.smallest (sym c.if-not-is_for.ensures) in
     let A : Choice → Type 0 = Follows j.ropes j.rows vs in
     let B : List Member → Type 0 = λ x. Follows j.ropes j.rows x ch in
     let C : ℕ → Type 0 = λ n. Follows n j.rows ms ch in
@@ -95,7 +96,7 @@ returns-in-Some c =
     let j = c.args.job.now in
     let P = problem_of j in
     let ms = vec_items e.members in
-    let f = sym c.if-not-is-for.ensures in
+    let f = sym c.if-not-is_for.ensures in
     let z = sizes_fit P e.ropes e.rows ms e.smallest f in
     let h : j.ropes + length ms ≤ 32 = omega (arith, e.few, e.small, e.members.ok.0, z.0) in
     let q = system_solved P ms c.deref.result.now c.len.result e.smallest c.system.result c.deref.ensures.value (c.len.ensures ∙ e.members.ok.0) h c.system.ensures in

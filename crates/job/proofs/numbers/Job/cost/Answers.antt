@@ -4,41 +4,41 @@ use Rattle.job.proofs.Reading.{reads_along, along_small, point_small, c_small, a
 use Rattle.job.proofs.Scoring.{along_back, slope_back, product_small, total_small, cost_more, cost_all}
 use Rattle.job.proofs.numbers.Job.cost.Goals as goal
 
-pub strided-dot-row-requires : goal.strided-dot-row-requires
-strided-dot-row-requires c =
-    reads_along c.args.self.now c.args.z.now 32768 (lit≤ tt) (sym c.if-not-is-point.ensures) c.loop-i.i _ c.loop-i-test.true c.deref.ensures.value
+pub strided_dot-row-requires : goal.strided_dot-row-requires
+strided_dot-row-requires c =
+    reads_along c.args.self.now c.args.z.now 32768 (lit≤ tt) (sym c.if-not-is_point.ensures) c.loop-i.i _ c.loop-i-test.true c.deref.ensures.value
 
-pub with-price-requires : goal.with-price-requires
-with-price-requires c =
-    let p = sym c.if-not-is-point.ensures in
-    let x = along_back c.args.self.now c.args.z.now p c.loop-i.i _ c.strided-dot-row.result c.deref.ensures.value c.strided-dot-row.ensures in
+pub with_price-requires : goal.with_price-requires
+with_price-requires c =
+    let p = sym c.if-not-is_point.ensures in
+    let x = along_back c.args.self.now c.args.z.now p c.loop-i.i _ c.strided_dot-row.result c.deref.ensures.value c.strided_dot-row.ensures in
     let v = c_read c.args.self.now c.loop-i.i _ c.index.ensures c.loop-i-test.true in
     record {
       sum = omega (arith, ap nat_abs x, along_small c.args.self.now (places c.args.z.now) c.loop-i.i (point_small _ 32768 c.args.z.now p));
       price = omega (arith, ap nat_abs v, c_small c.args.self.now c.loop-i.i);
     }
 
-pub plus-product-total-requires : goal.plus-product-total-requires
-plus-product-total-requires c =
-    let p = sym c.if-not-is-point.ensures in
-    let x = along_back c.args.self.now c.args.z.now p c.loop-i.i _ c.strided-dot-row.result c.deref.ensures.value c.strided-dot-row.ensures in
+pub plus_product-total-requires : goal.plus_product-total-requires
+plus_product-total-requires c =
+    let p = sym c.if-not-is_point.ensures in
+    let x = along_back c.args.self.now c.args.z.now p c.loop-i.i _ c.strided_dot-row.result c.deref.ensures.value c.strided_dot-row.ensures in
     let v = c_read c.args.self.now c.loop-i.i _ c.index.ensures c.loop-i-test.true in
     record {
       sum = total_small c.args.self.now c.args.z.now p c.loop-i.i _ (omega (arith, c.loop-i-test.true)) c.loop-i.invariant;
       product = product_small c.args.self.now c.args.z.now p c.loop-i.i _ (slope_back c.args.self.now c.args.z.now p c.loop-i.i _ _
-          c.with-price.result x v c.with-price.ensures);
+          c.with_price.result x v c.with_price.ensures);
     }
 
 pub loop-i-preserved : goal.loop-i-preserved
 loop-i-preserved c =
-    let f : SFits w64 c.plus-product-total.result = search rules in
-    let p = sym c.if-not-is-point.ensures in
-    let x = along_back c.args.self.now c.args.z.now p c.loop-i.i _ c.strided-dot-row.result c.deref.ensures.value c.strided-dot-row.ensures in
+    let f : SFits w64 c.plus_product-total.result = search rules in
+    let p = sym c.if-not-is_point.ensures in
+    let x = along_back c.args.self.now c.args.z.now p c.loop-i.i _ c.strided_dot-row.result c.deref.ensures.value c.strided_dot-row.ensures in
     let v = c_read c.args.self.now c.loop-i.i _ c.index.ensures c.loop-i-test.true in
-    cost_more c.args.self.now c.args.z.now p c.loop-i.i _ _ c.plus-product-total.result f c.loop-i.invariant
-    (slope_back c.args.self.now c.args.z.now p c.loop-i.i _ _ c.with-price.result x v c.with-price.ensures) c.plus-product-total.ensures
+    cost_more c.args.self.now c.args.z.now p c.loop-i.i _ _ c.plus_product-total.result f c.loop-i.invariant
+    (slope_back c.args.self.now c.args.z.now p c.loop-i.i _ _ c.with_price.result x v c.with_price.ensures) c.plus_product-total.ensures
 
 pub returns : goal.returns
 returns c =
-    let p = sym c.if-not-is-point.ensures in
+    let p = sym c.if-not-is_point.ensures in
     answered _ _ _ p (cost_all c.args.self.now c.args.z.now p c.loop-i.i _ (omega arith) c.loop-i.invariant)

@@ -10,15 +10,15 @@ use Rattle.duality.proofs.Tests.{first_more, first_at, first_none}
 use Rattle.job.proofs.Outside.{meets_is, row_met, row_broken}
 use Rattle.job.proofs.numbers.Job.judge.Goals as goal
 
-pub row-at-requires : goal.row-at-requires
-row-at-requires c = record { row = c.loop-i-test.true; point = sym c.if-not-is-point.ensures }
+pub row_at-requires : goal.row_at-requires
+row_at-requires c = record { row = c.loop-i-test.true; point = sym c.if-not-is_point.ensures }
 
 pub returns-then-not-between : goal.returns-then-not-between
 returns-then-not-between c =
-    let p = sym c.if-not-is-point.ensures in
+    let p = sym c.if-not-is_point.ensures in
     let lo = lo_read c.args.self.now c.loop-i.i _ c.index.ensures c.loop-i-test.true in
     let hi = hi_read c.args.self.now c.loop-i.i _ c.index-in-loop-i.ensures c.loop-i-test.true in
-    let s = back_of (2 ^ 54) c.row-at.result _ c.row-at.ensures (row_small c.args.self.now (places c.args.z.now) 1073741824 c.loop-i.i
+    let s = back_of (2 ^ 54) c.row_at.result _ c.row_at.ensures (row_small c.args.self.now (places c.args.z.now) 1073741824 c.loop-i.i
     (point_small _ 1073741824 c.args.z.now p)) (lit< tt) in
     let no' = meets_is c.args.self.now c.args.z.now c.loop-i.i _ _ _ false lo hi s c.if-not-between.ensures in
     let P = problem_of c.args.self.now in
@@ -30,10 +30,10 @@ returns-then-not-between c =
 
 pub loop-i-preserved : goal.loop-i-preserved
 loop-i-preserved c =
-    let p = sym c.if-not-is-point.ensures in
+    let p = sym c.if-not-is_point.ensures in
     let lo = lo_read c.args.self.now c.loop-i.i _ c.index.ensures c.loop-i-test.true in
     let hi = hi_read c.args.self.now c.loop-i.i _ c.index-in-loop-i.ensures c.loop-i-test.true in
-    let s = back_of (2 ^ 54) c.row-at.result _ c.row-at.ensures (row_small c.args.self.now (places c.args.z.now) 1073741824 c.loop-i.i
+    let s = back_of (2 ^ 54) c.row_at.result _ c.row_at.ensures (row_small c.args.self.now (places c.args.z.now) 1073741824 c.loop-i.i
     (point_small _ 1073741824 c.args.z.now p)) (lit< tt) in
     first_more (meets (problem_of c.args.self.now) (places c.args.z.now)) c.loop-i.i c.loop-i.invariant
     (meets_is c.args.self.now c.args.z.now c.loop-i.i _ _ _ true lo hi s c.if-not-between.ensures)
@@ -43,7 +43,7 @@ returns c =
     let e : c.loop-i.i ≡ c.args.self.now.rows = omega arith in
     let all = ap (first_not (meets (problem_of c.args.self.now) (places c.args.z.now))) (sym e) ∙ c.loop-i.invariant in
     record {
-      value = ap verdict (sym all) ∙ sym (cond-true _ _ _ (sym c.if-not-is-point.ensures));
+      value = ap verdict (sym all) ∙ sym (cond-true _ _ _ (sym c.if-not-is_point.ensures));
       law = λ k l. row_met (problem_of c.args.self.now) (places c.args.z.now) k (first_none (meets (problem_of c.args.self.now) (places c.args.z.now))
           c.args.self.now.rows k all l);
     }

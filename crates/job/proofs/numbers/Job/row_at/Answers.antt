@@ -3,12 +3,12 @@ use Rattle.std.proofs.lemmas.Int.{to_z-of_z}
 use Rattle.job.proofs.Reading.{reads_row, row_is}
 use Rattle.job.proofs.numbers.Job.row_at.Goals as goal
 
-pub strided-dot-requires : goal.strided-dot-requires
-strided-dot-requires c = reads_row c.args.self.now c.args.z.now 1073741824 (le_refl 1073741824) c.requires.point c.args.i _ c.requires.row c.deref.ensures.value
+pub strided_dot-requires : goal.strided_dot-requires
+strided_dot-requires c = reads_row c.args.self.now c.args.z.now 1073741824 (le_refl 1073741824) c.requires.point c.args.i _ c.requires.row c.deref.ensures.value
 
 pub returns : goal.returns
 returns c =
-    let f : SFits w64 c.strided-dot.result = search rules in
+    let f : SFits w64 c.strided_dot.result = search rules in
     to_z-of_z w64 _ f
-    ∙ c.strided-dot.ensures
+    ∙ c.strided_dot.ensures
     ∙ row_is c.args.self.now c.args.z.now 1073741824 (le_refl 1073741824) c.requires.point c.args.i _ c.deref.ensures.value

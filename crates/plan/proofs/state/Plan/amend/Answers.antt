@@ -1,6 +1,7 @@
 use Rattle.std.proofs.Common.{◌≡◌, not, ◌&&◌, List, ℤ, vec_items, Option, sym, refl, ap, ◌∙◌, rules}
 use Rattle.duality.specs.Lists.{places}
-use Rattle.evaluate.specs.Terms.{problem_of, numbers_of}
+use Rattle.evaluate.specs.Terms.{problem_of}
+use Rattle.evaluate.specs.Stated.{numbers_of}
 use Rattle.evaluate.specs.Findings.{feasible}
 use Rattle.evaluate.specs.Floors.{refuting}
 use Rattle.calls.specs.States.{State}

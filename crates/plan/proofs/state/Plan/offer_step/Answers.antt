@@ -1,6 +1,6 @@
 use Rattle.std.proofs.Common.{◌≡◌, ℕ, take, sym, refl, ap, ◌∙◌, rules}
 use native.Mathlib.Nat.{sub-zero}
-use Rattle.evaluate.specs.Terms.{numbers_of}
+use Rattle.evaluate.specs.Stated.{numbers_of}
 use Rattle.calls.specs.States.{State}
 use Rattle.plan.specs.View.{view}
 use Rattle.plan.proofs.Solving.{step_last, step_after}

@@ -1,7 +1,7 @@
 use Rattle.std.proofs.Common.{◌≡◌, length, vec_items, vec_len, sym, refl, ap, ◌∙◌}
 use Rattle.duality.specs.Tests.{many_within}
 use Rattle.opening.specs.Opening.{numbers_of}
-use Rattle.evaluate.specs.Terms.{Numbers}
+use Rattle.evaluate.specs.Stated.{Numbers}
 use Rattle.plan.proofs.Opened.{fitting_is, zeros_fit, lower_fit}
 use Rattle.plan.proofs.state.Plan.open.Goals as goal
 

@@ -1,5 +1,5 @@
 use Rattle.std.proofs.Common.{◌≡◌, ℕ, suc, ◌+◌, ◌-◌, vec_items, sym, ap, ◌∙◌, arith, rules}
-use Rattle.evaluate.specs.Terms.{Numbers}
+use Rattle.evaluate.specs.Stated.{Numbers}
 use Rattle.job.specs.Numbers.{problem_of}
 use Rattle.exchange.specs.Runs.{Run, over, run_from, reported}
 use Rattle.exchange.proofs.Running.{turn_on, turn_over, run_spent}

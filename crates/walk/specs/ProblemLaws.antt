@@ -1,0 +1,46 @@
+-- What every walk keeps to, in the words of a problem.
+use Rattle.std.specs.Prelude.{◌≡◌, ℕ, zero, suc, ◌≤◌, true, false, ◌⊎◌, List, ℤ, ◌≤ℤ◌, ◌<ℤ◌, Ok, Err, Result}
+use Rattle.duality.specs.Lists.{places}
+use Rattle.duality.specs.Sums.{Vector}
+use Rattle.duality.specs.Problem.{Problem, cost}
+use Rattle.job.specs.ProblemBounds.{InBounds, is_in_bounds}
+use Rattle.job.specs.Numbers.{has_sizes}
+use Rattle.job.specs.Rows.{outside}
+use Rattle.walk.specs.Moves.{after}
+use Rattle.walk.specs.ProblemLowering.{Below, Step}
+use Rattle.walk.specs.ProblemWalks.{walk_from, ended}
+use Rattle.walk.specs.declared.moves.Move.{Move}
+use Rattle.walk.specs.declared.ends.Walked.{Walked}
+use Rattle.walk.specs.declared.ends.Unfit.{Unfit}
+use Rattle.walk.specs.declared.ends.Unfit.TheVariants.{OutOfBounds, OtherSizes}
+use Rattle.walk.specs.declared.ends.End.TheVariants.{Settled, Spent}
+
+-- a move from z that may be made and lowers
+abbrev pub Descent : Problem → List ℤ → Type 0
+Descent P z = (m : Move) × Step P z m × Below P (places z) (places (after z m))
+
+-- n such moves lead from z to y
+abbrev pub Downhill : Problem → List ℤ → ℕ → List ℤ → Type 0
+Downhill P z zero y = z ≡ y
+Downhill P z (suc n) y = (d : Descent P z) × Downhill P (after z d.0) n y
+
+-- y is no worse than z
+abbrev pub NoWorse : Problem → Vector → Vector → Type 0
+NoWorse P z y = (outside P y <ℤ outside P z) ⊎ ((outside P y ≡ outside P z) × (cost P y ≤ℤ cost P z))
+
+-- a walk from z to y
+pub record Lawful (P : Problem) (budget : ℕ) (z y : List ℤ) (w : Walked) : Type 0 where
+  -- each move taken lowers, and the count is that of the moves taken
+  pub descends : Downhill P z w.moves y
+  pub within_budget : w.moves ≤ budget
+  pub in_bounds : InBounds P y
+  pub no_worse : NoWorse P (places z) (places y)
+  -- settled means that no move lowers; spent, that one does and the budget is used
+  pub settled : w.end ≡ Settled → Descent P y → ⊥
+  pub spent : w.end ≡ Spent → (w.moves ≡ budget) × Descent P y
+
+-- how the call answers, with room for n ropes and m rows, and with the point z before and y after it
+abbrev pub Outcome : Problem → (n m budget : ℕ) → List ℤ → List ℤ → Result Walked Unfit → Type 0
+Outcome P n m budget z y (Ok w) = (has_sizes P n m ≡ true) × (is_in_bounds P z ≡ true) × (ended y w ≡ walk_from P budget z)
+Outcome P n m budget z y (Err OtherSizes) = (has_sizes P n m ≡ false) × (y ≡ z)
+Outcome P n m budget z y (Err OutOfBounds) = (has_sizes P n m ≡ true) × (is_in_bounds P z ≡ false) × (y ≡ z)
