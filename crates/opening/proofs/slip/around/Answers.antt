@@ -6,15 +6,15 @@ use Rattle.table.specs.Grid.{matrix_of}
 use Rattle.opening.proofs.Slips.{around_fits, around_more}
 use Rattle.opening.proofs.slip.around.Goals as goal
 
-pub overflow-add-sum : goal.overflow-add-sum
-overflow-add-sum g c =
-    around_fits c.args.n c.args.slip.now c.requires.fit (g.G.Table.meant c.args.g.now) c.args.i c.loop-j.j c.loop-j-test.true _ c.beside-at-sum.result
-    c.loop-j.invariant c.beside-at-sum.ensures
+pub overflow_add-sum : goal.overflow_add-sum
+overflow_add-sum g c =
+    around_fits c.args.n c.args.slip.now c.requires.fit (g.G.Table.meant c.args.g.now) c.args.i c.loop-j.j c.loop-j-test.true _ c.beside_at-sum.result
+    c.loop-j.invariant c.beside_at-sum.ensures
 
 pub loop-j-preserved : goal.loop-j-preserved
 loop-j-preserved g c =
-    around_more c.args.n c.args.slip.now c.requires.fit (g.G.Table.meant c.args.g.now) c.args.i c.loop-j.j c.loop-j-test.true _ c.beside-at-sum.result
-    c.loop-j.invariant c.beside-at-sum.ensures
+    around_more c.args.n c.args.slip.now c.requires.fit (g.G.Table.meant c.args.g.now) c.args.i c.loop-j.j c.loop-j-test.true _ c.beside_at-sum.result
+    c.loop-j.invariant c.beside_at-sum.ensures
 
 pub returns : goal.returns
 unfolding around

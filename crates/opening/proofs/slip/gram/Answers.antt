@@ -9,8 +9,8 @@ bounds-slip-k c = let l = c.requires.fit.long in omega (arith, inside c.args.n c
 pub bounds-slip-k-in-loop-k : goal.bounds-slip-k-in-loop-k
 bounds-slip-k-in-loop-k c = let l = c.requires.fit.long in omega (arith, inside c.args.n c.loop-k.k c.args.j c.loop-k-test.true c.requires.column)
 
-pub plus-product-sum-requires : goal.plus-product-sum-requires
-plus-product-sum-requires c =
+pub plus_product-sum-requires : goal.plus_product-sum-requires
+plus_product-sum-requires c =
     record {
       sum = sum_small c.args.n c.args.slip.now c.requires.fit c.args.i c.args.j c.loop-k.k _ c.loop-k-test.true c.loop-k.invariant;
       product = product_small c.args.n c.args.slip.now c.requires.fit c.args.i c.args.j c.loop-k.k;
@@ -18,6 +18,6 @@ plus-product-sum-requires c =
 
 pub loop-k-preserved : goal.loop-k-preserved
 loop-k-preserved c =
-    let f : SFits w64 c.plus-product-sum.result = search rules in
-    gram_more c.args.n c.args.slip.now c.requires.fit c.args.i c.args.j c.loop-k.k _ c.plus-product-sum.result f c.loop-k.invariant
-    c.plus-product-sum.ensures
+    let f : SFits w64 c.plus_product-sum.result = search rules in
+    gram_more c.args.n c.args.slip.now c.requires.fit c.args.i c.args.j c.loop-k.k _ c.plus_product-sum.result f c.loop-k.invariant
+    c.plus_product-sum.ensures

@@ -11,4 +11,4 @@ returns-in-Some g c =
     (subst (λ n. c.loop-i.i < n) c.height-height.ensures.value c.loop-i-test.true))
 
 pub loop-i-preserved : goal.loop-i-preserved
-loop-i-preserved g c = of_more (mirror_fault (g.G.Table.meant c.args.g.now)) c.loop-i.i c.loop-i.invariant (sym c.in-default.ensures)
+loop-i-preserved g c = of_more (mirror_fault (g.G.Table.meant c.args.g.now)) c.loop-i.i c.loop-i.invariant (sym c.in_default.ensures)
