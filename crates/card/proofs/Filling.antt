@@ -1,5 +1,5 @@
 -- The contents of a card: counts and fits of the sections, kind by kind.
-use Rattle.std.proofs.Common.{◌≡◌, ℕ, ◌*◌, List, [], ◌∷◌, length, ℤ, pos, sym, refl, ap, ◌∙◌, arith, w32, to_z}
+use Rattle.std.proofs.Common.{◌≡◌, ℕ, List, [], ◌∷◌, ℤ, pos, sym, refl, ap, ◌∙◌, arith, w32, to_z}
 use lib.Seq.{paste}
 use Rattle.std.proofs.lemmas.List.{append-nil}
 use Rattle.std.proofs.lemmas.Int.{to_z_pos}
@@ -7,7 +7,6 @@ use Rattle.section.specs.declared.kind.Kind.{Kind}
 use Rattle.section.specs.declared.kind.Kind.TheVariants.{Head, Curvature, Rows, Costs, Bounds, Limits, Slip}
 use Rattle.card.specs.declared.contents.Contents.{Contents}
 use Rattle.section.specs.declared.sizes.Sizes.{Sizes}
-use Rattle.section.specs.Layout.{numbers_for}
 use Rattle.card.specs.Contents.{numbers, Counted}
 use Rattle.card.specs.Cards.{section_into, head_of}
 

@@ -1,19 +1,18 @@
 -- The tables of a card that passes have the numbers of its sections.
-use Rattle.std.proofs.Common.{◌≡◌, ℕ, ◌+◌, ◌*◌, ◌<◌, ◌≤◌, min, true, cond, leb, List, length, get_or, ℤ, pos, Some, None, Ok, Option, unwrap_or, sym, refl, ap, ◌∙◌, subst, arith}
+use Rattle.std.proofs.Common.{◌≡◌, ℕ, ◌+◌, ◌*◌, ◌<◌, ◌≤◌, true, cond, leb, List, length, ℤ, pos, Some, None, unwrap_or, sym, refl, ap, ◌∙◌, subst, arith}
 use Rattle.std.proofs.lemmas.Nat.{mul-add-lt}
 use Rattle.std.proofs.lemmas.Bool.{le-leb}
 use Rattle.block.specs.Bytes.{num, number_at}
 use Rattle.section.specs.declared.kind.Kind.{Kind}
 use Rattle.section.specs.declared.kind.Kind.TheVariants.{Curvature, Rows}
 use Rattle.section.specs.Layout.{blocks_for, count_of, first_of}
-use Rattle.section.specs.Numbers.{numbers_in}
 use Rattle.section.specs.Sections.{spot_of}
 use Rattle.section.proofs.Spots.{number_stands}
-use Rattle.table.specs.Grid.{Grid, cut, height_of, width_of, limited, place_of}
+use Rattle.table.specs.Grid.{Grid, cut, height_of, limited}
 use Rattle.table.proofs.Places.{place_inside}
-use Rattle.card.specs.Faults.{n_of, m_of, card_check}
+use Rattle.card.specs.Faults.{n_of, m_of}
 use Rattle.card.specs.Grids.{size_at, section_grid, curvature_grid, rows_grid, Holds}
-use Rattle.card.proofs.Whole.{Sound, sound}
+use Rattle.card.proofs.Whole.{Sound}
 
 module _ (card : List ℕ) (s : Sound card) where
   size_stands : (at n : ℕ) → at + 4 ≤ 512 → pos n ≡ num card at → size_at card at ≡ pos n

@@ -1,8 +1,8 @@
 -- A run of blocks under one letter, one block on.
-use Rattle.std.proofs.Common.{◌≡◌, ℕ, zero, suc, ◌+◌, ◌-◌, ◌*◌, ◌/◌, ◌<◌, ◌≤◌, min, List, Ok, Err, sym, refl, ap, ◌∙◌, arith}
+use Rattle.std.proofs.Common.{◌≡◌, ℕ, suc, ◌+◌, ◌-◌, ◌<◌, min, List, Ok, Err, sym, ap, ◌∙◌, arith}
 use Rattle.block.specs.declared.fault.Fault.{Fault}
 use Rattle.block.specs.Blocks.{block_at}
-use Rattle.block.specs.Checks.{Verdict, and_then, block_check}
+use Rattle.block.specs.Checks.{and_then, block_check}
 use Rattle.section.specs.Layout.{blocks_for}
 use Rattle.card.specs.Faults.{run_check}
 

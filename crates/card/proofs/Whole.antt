@@ -1,5 +1,5 @@
 -- A card that passes is the card that is made of its own sizes and numbers.
-use Rattle.std.proofs.Common.{◌≡◌, ℕ, zero, suc, ◌+◌, ◌-◌, ◌*◌, ◌/◌, ◌%◌, ◌<◌, ◌≤◌, min, Bool, true, false, cond, ◌&&◌, eqb, leb, List, [], ◌∷◌, ◌++◌, length, get_or, take, drop, ℤ, pos, negsuc, nat_abs, Ok, Err, sym, refl, ap, ◌∙◌, subst, ⊎_elim, arith}
+use Rattle.std.proofs.Common.{◌≡◌, ℕ, zero, suc, ◌+◌, ◌-◌, ◌*◌, ◌%◌, ◌<◌, ◌≤◌, min, true, ◌&&◌, eqb, leb, List, [], ◌∷◌, ◌++◌, length, get_or, take, drop, ℤ, pos, negsuc, nat_abs, Ok, sym, refl, ap, ◌∙◌, ⊎_elim, arith}
 use lib.Signed.{le_z}
 use Rattle.std.proofs.lemmas.List.{take-append-drop, drop-drop, take_at, drop_at, take_all, drop_all, length-take, length-drop, get_or-take, get_or-drop, append-nil, take-take, get_or_past, drop-take}
 use Rattle.std.proofs.lemmas.Bool.{cases_lt, eqb-true, leb-true, and_parts}
@@ -9,7 +9,7 @@ use Rattle.block.specs.Blocks.{block_at, block_of, numbers_of}
 use Rattle.block.specs.Checks.{Verdict, and_then, block_check, sum_check, name_check, spare_check}
 use Rattle.block.proofs.RoundTrip.{then_ok, cond_ok, passed, block_back, length_numbers}
 use Rattle.section.specs.declared.kind.Kind.{Kind}
-use Rattle.section.specs.declared.kind.Kind.TheVariants.{Head, Curvature, Rows, Costs, Bounds, Limits, Slip}
+use Rattle.section.specs.declared.kind.Kind.TheVariants.{Curvature, Rows, Costs, Bounds, Limits, Slip}
 use Rattle.section.specs.Kinds.{letter_of}
 use Rattle.section.specs.Layout.{InRange, blocks_for, count_of, first_of, blocks_in}
 use Rattle.card.specs.Faults.{n_of, m_of, in_size, size_check, head_check, length_check, full_check, run_check, section_check, sections_check, card_check}

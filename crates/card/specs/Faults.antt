@@ -1,12 +1,12 @@
 -- The first fault of a card: whole blocks, then the head, then the length that the head asks for, then every other block in turn.
-use Rattle.std.specs.Prelude.{ℕ, zero, suc, ◌+◌, ◌-◌, ◌*◌, ◌/◌, ◌%◌, min, Bool, cond, ◌&&◌, List, [], ◌∷◌, length, ℤ, pos, Ok, Err, Result, ◌==◌, int_le, nat_le, unsigned_abs}
+use Rattle.std.specs.Prelude.{ℕ, zero, suc, ◌+◌, ◌-◌, ◌*◌, ◌%◌, min, Bool, cond, ◌&&◌, List, length, ℤ, pos, Ok, Err, Result, ◌==◌, int_le, nat_le, unsigned_abs}
 use Rattle.block.specs.declared.fault.Fault.{Fault}
 use Rattle.block.specs.declared.fault.Fault.TheVariants.{Length, Sizes}
 use Rattle.block.specs.Bytes.{num}
 use Rattle.block.specs.Blocks.{block_at}
 use Rattle.block.specs.Checks.{Verdict, and_then, sum_check, name_check, spare_check, block_check}
 use Rattle.section.specs.declared.kind.Kind.{Kind}
-use Rattle.section.specs.declared.kind.Kind.TheVariants.{Head, Curvature, Rows, Costs, Bounds, Limits, Slip}
+use Rattle.section.specs.declared.kind.Kind.TheVariants.{Curvature, Rows, Costs, Bounds, Limits, Slip}
 use Rattle.section.specs.Kinds.{letter_of}
 use Rattle.section.specs.Layout.{blocks_for, count_of, first_of, blocks_in}
 

@@ -1,5 +1,5 @@
 -- What the tables of a card mean, on arbitrary bytes: sizes by the head's two numbers, numbers by the layout that the cut sizes give.
-use Rattle.std.specs.Prelude.{◌≡◌, ℕ, ◌+◌, ◌*◌, ◌<◌, List, ℤ, pos, Some, Ok, slice_index_or}
+use Rattle.std.specs.Prelude.{◌≡◌, ℕ, ◌+◌, ◌*◌, ◌<◌, List, ℤ, pos, Some, slice_index_or}
 use Rattle.std.specs.Option.{unwrap_or}
 use Rattle.block.specs.Bytes.{number_at}
 use Rattle.section.specs.declared.kind.Kind.{Kind}
@@ -8,7 +8,7 @@ use Rattle.section.specs.Numbers.{numbers_in}
 use Rattle.section.specs.Sections.{spot_of}
 use Rattle.table.specs.Grid.{Grid, cut, height_of, width_of, limited, place_of}
 use Rattle.card.specs.declared.card_table.CardTable.{CardTable}
-use Rattle.card.specs.Faults.{n_of, m_of, card_check}
+use Rattle.card.specs.Faults.{n_of, m_of}
 
 -- a size in the head as it stands there, 0 where the bytes end before it
 abbrev pub size_at : List ℕ → ℕ → ℤ

@@ -1,8 +1,7 @@
 -- Every answer keeps to its limit.
-use Rattle.std.proofs.Common.{◌≡◌, ℕ, ◌*◌, ◌^◌, ◌<◌, ◌≤◌, Bool, true, ◌&&◌, ltb, List, length, ℤ, pos, negsuc, ◌*ℤ◌, nat_abs, Some, None, Decides, Option, unwrap_or, refl, arith}
+use Rattle.std.proofs.Common.{◌≡◌, ℕ, ◌*◌, ◌^◌, ◌<◌, ◌≤◌, Bool, true, ◌&&◌, ltb, List, length, ℤ, pos, negsuc, ◌*ℤ◌, nat_abs, Some, None, Decides, Option, unwrap_or, arith}
 use Rattle.std.proofs.lemmas.Bool.{leb-true, cond_both}
-use Rattle.std.proofs.lemmas.Bool.Decides.{Decides-below_and}
-use Rattle.duality.specs.Sums.{∑, row}
+use Rattle.duality.specs.Sums.{∑}
 use Rattle.duality.specs.Lists.{places}
 use Rattle.duality.proofs.Tests.{all_at, all_from}
 use Rattle.table.specs.Grid.{Grid, cut, height_of, width_of, limited, place_of, matrix_of}

@@ -3,7 +3,7 @@ use Rattle.std.proofs.Common.{◌≡◌, ℕ, ◌+◌, ◌-◌, ◌<◌, ◌≤�
 use Rattle.std.proofs.lemmas.List.{at_drop_more, at_drop_all}
 use Rattle.std.proofs.lemmas.Bool.{eqb-true, eq-eqb, false≢true, cases_Bool, cond-true, cond-false}
 use Rattle.std.proofs.lemmas.Bool.Decides.{Decides-and}
-use Rattle.std.specs.List.{AllByRecursion as All}
+use Rattle.std.specs.List.{AllByRecursion}
 use Rattle.table.specs.declared.triplets.Record.{Record}
 use Rattle.duality.specs.Lists.{places}
 use Rattle.table.specs.Grid.{cut, width_of, limited, product_of}
@@ -37,12 +37,12 @@ for_decides r i j = Decides-and (is_index r.row i) (is_index r.column j) (index_
 not_for : (r : Record) (i j : ℕ) → NotFor i j r → is_for r i j ≡ false
 not_for r i j n = ⊎_elim (λ t. absurd (n ((for_decides r i j).0 t))) (λ f. f) (cases_Bool (is_for r i j))
 
-recorded_first : (before after : List Record) (r : Record) (i j : ℕ) → All (NotFor i j) before → For i j r → recorded (before ++ (r ∷ after)) i j ≡ r.number
+recorded_first : (before after : List Record) (r : Record) (i j : ℕ) → AllByRecursion (NotFor i j) before → For i j r → recorded (before ++ (r ∷ after)) i j ≡ r.number
 recorded_first [] after r i j n f = cond-true (is_for r i j) r.number (recorded after i j) ((for_decides r i j).1 f)
 recorded_first (b ∷ before) after r i j n f =
     cond-false (is_for b i j) b.number (recorded (before ++ (r ∷ after)) i j) (not_for b i j n.0) ∙ recorded_first before after r i j n.1 f
 
-recorded_absent : (rs : List Record) (i j : ℕ) → All (NotFor i j) rs → recorded rs i j ≡ pos 0
+recorded_absent : (rs : List Record) (i j : ℕ) → AllByRecursion (NotFor i j) rs → recorded rs i j ≡ pos 0
 recorded_absent [] i j n = refl
 recorded_absent (r ∷ rs) i j n = cond-false (is_for r i j) r.number (recorded rs i j) (not_for r i j n.0) ∙ recorded_absent rs i j n.1
 

@@ -1,5 +1,4 @@
-use Rattle.std.proofs.Common.{◌≡◌, ap, ◌∙◌}
-use Rattle.section.specs.Kinds.{letter_of}
+use Rattle.std.proofs.Common.{ap, ◌∙◌}
 use Rattle.section.specs.Layout.{blocks_for, first_of, count_of}
 use Rattle.card.specs.Faults.{section_check, run_check}
 use Rattle.card.proofs.checks.check_section.Goals as goal
