@@ -1,11 +1,11 @@
 -- The round trip of a block, on lists.
-use Rattle.std.proofs.Common.{◌≡◌, ℕ, zero, suc, ◌+◌, ◌-◌, ◌*◌, ◌/◌, ◌%◌, ◌^◌, ◌<◌, ◌≤◌, Bool, true, false, cond, eqb, List, [], ◌∷◌, ◌++◌, map, length, get_or, take, drop, replicate, ℤ, pos, Some, None, Option, sym, refl, ap, ◌∙◌, add-one, arith, w32, SFits, to_z, of_z}
+use Rattle.std.proofs.Common.{◌≡◌, ℕ, zero, suc, ◌+◌, ◌*◌, ◌%◌, ◌<◌, ◌≤◌, Bool, true, false, cond, eqb, List, [], ◌∷◌, ◌++◌, map, length, get_or, take, drop, replicate, ℤ, pos, Some, None, sym, refl, ap, ◌∙◌, arith, w32, SFits, to_z, of_z}
 use Rattle.std.specs.List.{flat_map, range_with_len}
 use Rattle.std.proofs.lemmas.List.{drop_more, get_or-append-add, append_assoc, length-append}
 use Rattle.std.proofs.lemmas.Bool.{eqb-true}
-use Rattle.block.specs.Bytes.{le16, le32, num, bytes2, bytes4}
+use Rattle.block.specs.Bytes.{num, bytes4}
 use Rattle.block.specs.Checks.{first_set}
-use Rattle.block.proofs.LittleEndian.{four_back, num_back, two_back}
+use Rattle.block.proofs.LittleEndian.{four_back, num_back}
 
 pub drop_four : (bs : List ℕ) (p : ℕ) → p + 4 ≤ length bs → drop p bs ≡ get_or bs p 0 ∷ get_or bs (p + 1) 0 ∷ get_or bs (p + 2) 0 ∷ get_or bs (p + 3) 0 ∷ drop (p + 4) bs
 drop_four bs p h =

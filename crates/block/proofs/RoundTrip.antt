@@ -1,18 +1,18 @@
 -- A block that passes is the block of its numbers, and a block that is written passes and is read back.
-use Rattle.std.proofs.Common.{◌≡◌, ℕ, zero, suc, ◌+◌, ◌-◌, ◌*◌, ◌/◌, ◌%◌, ◌^◌, ◌<◌, ◌≤◌, min, Bool, true, false, cond, eqb, List, [], ◌∷◌, ◌++◌, map, length, get_or, take, drop, replicate, ℤ, pos, Some, None, Ok, Err, Option, sym, refl, ap, ◌∙◌, arith, w32, SFits, to_z, of_z}
+use Rattle.std.proofs.Common.{◌≡◌, ℕ, suc, ◌+◌, ◌-◌, ◌*◌, ◌/◌, ◌%◌, ◌<◌, ◌≤◌, Bool, true, false, cond, eqb, List, [], ◌∷◌, ◌++◌, map, length, get_or, take, drop, replicate, ℤ, pos, Some, None, Ok, Err, Option, sym, refl, ap, ◌∙◌, arith, w32, SFits}
 use Rattle.std.specs.List.{flat_map, range_with_len}
-use Rattle.std.proofs.lemmas.List.{append_assoc, length-append, length-take, length-take-le, length-drop, take-append-drop, take-take, replicate-append-replicate, take_at, drop_at, drop_all, get_or_append_left, get_or-append-add, drop-append-le, drop-drop, drop_more}
+use Rattle.std.proofs.lemmas.List.{append_assoc, length-take, length-drop, take-append-drop, take-take, replicate-append-replicate, take_at, drop_at, drop_all, get_or-append-add, drop_more}
 use Rattle.std.proofs.lemmas.List.FromFn.{length-map-range_with_len}
 use Rattle.std.proofs.lemmas.Bool.{eqb-true, eq-eqb}
 use Rattle.block.specs.declared.fault.Fault.{Fault}
-use Rattle.block.specs.Bytes.{le16, le32, num, bytes2, bytes4}
+use Rattle.block.specs.Bytes.{le16, num, bytes2, bytes4}
 use Rattle.block.specs.Blocks.{weighed, check_of, filled, body_of, block_of, numbers_of}
-use Rattle.block.specs.Checks.{Verdict, and_then, first_set, spare_in, no_spare, sum_check, name_check, spare_check, block_check}
+use Rattle.block.specs.Checks.{Verdict, and_then, first_set, spare_in, sum_check, name_check, spare_check, block_check}
 use Rattle.block.specs.Spares.{Exact}
 use Rattle.block.proofs.LittleEndian.{two_back}
 use Rattle.block.proofs.FirstSet.{spare_ok}
 use Rattle.block.proofs.NumbersAsBytes.{drop_four, numbers_bytes, none_set, zeros_none, zero_numbers, joined4_append, read_back}
-use Rattle.block.proofs.Laying.{length_body, length_filled, length_joined4}
+use Rattle.block.proofs.Laying.{length_body, length_joined4}
 
 -- what a block that passes says
 pub record Passed (block : List ℕ) (letter number used : ℕ) : Type 0 where

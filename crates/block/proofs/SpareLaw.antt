@@ -1,9 +1,9 @@
 -- The first spare byte that is set: all before it are 0, and where there is none, all are.
-use Rattle.std.proofs.Common.{◌≡◌, ℕ, suc, ◌+◌, ◌-◌, ◌*◌, ◌<◌, ◌≤◌, Bool, true, false, cond, eqb, ◌⊎◌, List, [], ◌∷◌, length, get_or, take, drop, Some, None, Ok, Err, Option, sym, refl, ap, ◌∙◌, inl, inr, ⊎_elim, arith}
+use Rattle.std.proofs.Common.{◌≡◌, ℕ, suc, ◌+◌, ◌-◌, ◌*◌, ◌<◌, ◌≤◌, Bool, true, false, cond, eqb, List, [], ◌∷◌, length, get_or, take, drop, Some, None, Err, Option, sym, refl, ap, ◌∙◌, inl, inr, ⊎_elim, arith}
 use Rattle.std.proofs.lemmas.List.{get_or-take, get_or-drop, length-take, length-drop}
 use Rattle.std.proofs.lemmas.Bool.{eqb-true, eqb-false, cases_lt}
 use Rattle.block.specs.declared.fault.Fault.{Fault}
-use Rattle.block.specs.Checks.{Verdict, first_set, spare_in, no_spare, spare_check}
+use Rattle.block.specs.Checks.{first_set, spare_in, no_spare, spare_check}
 use Rattle.block.specs.Spares.{IsSpare, FirstSpare}
 use Rattle.block.proofs.FirstSet.{spare_ok}
 

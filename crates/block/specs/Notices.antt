@@ -2,7 +2,6 @@
 use Rattle.std.specs.Prelude.{ℕ}
 use Rattle.block.specs.declared.fault.Fault.{Fault}
 use Rattle.block.specs.declared.fault.Fault.TheVariants.{Length, CheckSum, Name, Sizes, Spare, Short}
-use Rattle.block.specs.declared.fault.Layer.{Layer}
 use Rattle.block.specs.declared.fault.Layer.TheVariants.{Card}
 use Rattle.block.specs.declared.fault.Notice.{Notice}
 

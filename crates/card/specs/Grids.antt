@@ -7,7 +7,7 @@ use Rattle.section.specs.Layout.{blocks_for}
 use Rattle.section.specs.Numbers.{numbers_in}
 use Rattle.section.specs.Sections.{spot_of}
 use Rattle.table.specs.Grid.{Grid, cut, height_of, width_of, limited, place_of}
-use Rattle.card.specs.declared.table.CardTable.{CardTable}
+use Rattle.card.specs.declared.card_table.CardTable.{CardTable}
 use Rattle.card.specs.Faults.{n_of, m_of, card_check}
 
 -- a size in the head as it stands there, 0 where the bytes end before it

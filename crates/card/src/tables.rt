@@ -3,7 +3,7 @@ ghost use Rattle.section.specs.declared.kind.Kind.TheVariants.{Curvature, Rows};
 ghost use Rattle.card.specs.Faults.{n_of, m_of, card_check};
 ghost use Rattle.card.specs.Grids.{size_at, curvature_grid, rows_grid, grid_of, Holds};
 
-use crate::table::CardTable;
+use crate::card_table::CardTable;
 use block::number_at;
 use section::spot_of;
 use table::{Table, cut_size, limit_number};

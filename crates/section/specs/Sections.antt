@@ -1,11 +1,10 @@
 -- A section as a part of a card's bytes.
-use Rattle.std.specs.Prelude.{ℕ, ◌+◌, ◌*◌, ◌/◌, ◌%◌, cond, List, length, take, drop, ℤ, Some, None, Option, nat_le, slice_index}
+use Rattle.std.specs.Prelude.{ℕ, ◌+◌, ◌*◌, ◌/◌, ◌%◌, cond, List, length, take, drop, ℤ, None, Option, nat_le, slice_index}
 use Rattle.std.specs.Option.{option_map}
 use Rattle.block.specs.Bytes.{number_at}
 use Rattle.section.specs.declared.kind.Kind.{Kind}
 use Rattle.section.specs.declared.kind.Kind.TheVariants.{Head, Curvature, Rows, Costs, Bounds, Limits, Slip}
 use Rattle.section.specs.declared.section.Section.{Section}
-use Rattle.section.specs.declared.section.Section.TheVariants as Section
 use Rattle.section.specs.Kinds.{kind_of}
 use Rattle.section.specs.Layout.{blocks_for, count_of}
 

@@ -1,7 +1,7 @@
 -- A job that was read off a card, opened.
 use Rattle.std.proofs.Common.{◌≡◌, ℕ, Bool, true, false, cond, List, IfOk, Some, None, Ok, Err, Option, Result, sym, refl, ap, ◌∙◌, subst, ⊎_elim, arith}
 use Rattle.block.specs.Checks.{Verdict}
-use Rattle.card.specs.declared.table.CardTable.{CardTable}
+use Rattle.card.specs.declared.card_table.CardTable.{CardTable}
 use Rattle.card.specs.Faults.{card_check}
 use Rattle.card.specs.Grids.{curvature_grid, rows_grid, grid_of}
 use Rattle.opening.specs.Opening.{Numbers, open_fault}

@@ -1,6 +1,6 @@
 -- What loading a card answers.
 use Rattle.std.specs.Prelude.{ℕ, Bool, cond, List, Ok, Err, Result}
-use Rattle.card.specs.declared.table.CardTable.{CardTable}
+use Rattle.card.specs.declared.card_table.CardTable.{CardTable}
 use Rattle.card.specs.Faults.{card_check}
 use Rattle.card.specs.Grids.{curvature_grid, rows_grid, grid_of}
 use Rattle.opening.specs.Opening.{open_fault}

@@ -1,4 +1,4 @@
-use Rattle.std.proofs.Common.{◌≡◌, ◌<◌, ◌≤◌, sym, ◌∙◌, arith, rules}
+use Rattle.std.proofs.Common.{sym, ◌∙◌, arith}
 use Rattle.block.proofs.FirstSet.{first_here, first_past, first_none}
 use Rattle.block.proofs.checks.first_set.Goals as goal
 

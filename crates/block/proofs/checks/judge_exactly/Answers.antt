@@ -7,7 +7,7 @@ use Rattle.block.proofs.checks.judge_exactly.Goals as goal
 pub returns : goal.returns
 returns c =
     let block = c.args.block.now in
-    let small : (k : ℕ) → get_or block k 0 < 256 = λ k. (c.ok.block k).fits in
+    let small : (k : ℕ) → get_or block k 0 < 256 = λ k. (c.type_inv.block k).fits in
     record {
       value = c.judge.ensures;
       exact = subst (λ (v : Verdict). Exact block c.args.letter c.args.number c.args.used v) (sym c.judge.ensures)

@@ -1,8 +1,8 @@
-use Rattle.std.proofs.Common.{◌≡◌, ℕ, ◌+◌, ◌*◌, ◌<◌, ◌≤◌, List, length, get_or, take, ℤ, pos, sym, ap, ◌∙◌, subst, arith, w32, SFits, rules, below_more}
+use Rattle.std.proofs.Common.{◌≡◌, ◌+◌, ◌*◌, ◌<◌, ◌≤◌, List, length, get_or, take, ℤ, pos, sym, ap, ◌∙◌, subst, arith, w32, SFits, rules, below_more}
 use lib.Seq.{paste}
 use Rattle.std.specs.List.{flat_map}
 use Rattle.std.proofs.lemmas.Int.{to_z-of_z}
-use Rattle.std.proofs.lemmas.List.{take_all, get_or-take, length-take}
+use Rattle.std.proofs.lemmas.List.{take_all, get_or-take}
 use Rattle.block.specs.Bytes.{bytes4}
 use Rattle.block.specs.Blocks.{filled}
 use Rattle.block.proofs.Laying.{numbers_more, length_filled, length_part}

@@ -6,13 +6,13 @@ use Rattle.card.proofs.checks.check_card.Goals as goal
 
 pub returns : goal.returns
 returns c =
-    let value = c.judge-card.ensures.value in
+    let value = c.judge_card.ensures.value in
     record {
       value = value;
-      sizes = c.judge-card.ensures.sizes;
+      sizes = c.judge_card.ensures.sizes;
       exact =
           record {
-            made = λ e. card_back c.args.card.now (λ k. (c.type-inv.card k).fits) (sym value ∙ e);
+            made = λ e. card_back c.args.card.now (λ k. (c.type_inv.card k).fits) (sym value ∙ e);
             passes = λ n m nums proper e. value ∙ (ap card_check e ∙ card_passes n m proper.sizes nums proper);
           };
     }

@@ -11,7 +11,7 @@ returns c =
     let n = c.args.sizes.now.ropes in
     let m = c.args.sizes.now.rows in
     let kind = c.args.kind in
-    c.check-run.ensures
+    c.check_run.ensures
     ∙ (ap (λ f. run_check card c.letter.result f c.count.result (blocks_for c.count.result)) c.first.ensures.value
     ∙ (ap (λ k. run_check card c.letter.result (first_of kind n m) k (blocks_for k)) c.count.ensures.value
     ∙ ap (λ l. run_check card l (first_of kind n m) (count_of kind n m) (blocks_for (count_of kind n m))) c.letter.ensures))

@@ -17,8 +17,8 @@ loop-b-preserved c =
     let nums : List ℤ = c.args.numbers.now in
     let b : ℕ = c.loop-b.b in
     let left = left_is nums (b * 126) in (
-      run_more c.args.out.now c.loop-b.out c.copy-from-slice.new.self c.make-block.result.bytes c.args.letter c.args.first b _ nums
-          c.loop-b.invariant.0 (omega arith) (omega arith) (c.copy-from-slice.ensures.after ∙ c.bytes.ensures.value)
+      run_more c.args.out.now c.loop-b.out c.copy_from_slice.new.self c.make-block.result.bytes c.args.letter c.args.first b _ nums
+          c.loop-b.invariant.0 (omega arith) (omega arith) (c.copy_from_slice.ensures.after ∙ c.bytes.ensures.value)
           (c.make-block.ensures.value ∙ ap (λ xs. block_of c.args.letter (c.args.first + b) (take 126 xs)) left),
       fits_more nums b c.loop-b.invariant.1 (subst (λ (xs : List ℤ). Fit (take 126 xs)) left c.make-block.ensures.fits),
     )

@@ -9,43 +9,43 @@ use Rattle.evaluate.proofs.Reading.{many_at, given_test, given_value, answered}
 use Rattle.evaluate.proofs.Flooring.{both_fit, slack_small, floor_is}
 use Rattle.evaluate.proofs.floors.floor.Goals as goal
 
-pub slack-of-rows-rows-requires : goal.slack-of-rows-rows-requires
-slack-of-rows-rows-requires g c =
+pub slack_of_rows-rows-requires : goal.slack_of_rows-rows-requires
+slack_of_rows-rows-requires g c =
     let y = c.args.y.now in
     record {
-      point = given_test _ _ _ (c.in-ok-price.ensures (g.U.Table.meant c.args.a.now));
-      weights = many_at _ _ 16777216 y c.len.ensures (sym c.if-not-many-within.ensures);
+      point = given_test _ _ _ (c.in_ok-price.ensures (g.U.Table.meant c.args.a.now));
+      weights = many_at _ _ 16777216 y c.len.ensures (sym c.if-not-many_within.ensures);
     }
 
-pub slack-of-ropes-ropes-requires : goal.slack-of-ropes-ropes-requires
-slack-of-ropes-ropes-requires g c =
+pub slack_of_ropes-ropes-requires : goal.slack_of_ropes-ropes-requires
+slack_of_ropes-ropes-requires g c =
     let y = c.args.y.now in
     record {
-      point = given_test _ _ _ (c.in-ok-price.ensures (g.U.Table.meant c.args.a.now));
-      weights = many_at _ _ 16777216 y c.len.ensures (sym c.if-not-many-within.ensures);
+      point = given_test _ _ _ (c.in_ok-price.ensures (g.U.Table.meant c.args.a.now));
+      weights = many_at _ _ 16777216 y c.len.ensures (sym c.if-not-many_within.ensures);
     }
 
-pub overflow-add-rows : goal.overflow-add-rows
-overflow-add-rows g c =
+pub overflow_add-rows : goal.overflow_add-rows
+overflow_add-rows g c =
     let t = c.args.terms.now in
     let p = c.args.p.now in
     let y = c.args.y.now in
     let G = g.T.Table.meant c.args.g.now in
     let A = g.U.Table.meant c.args.a.now in
-    let hp = given_test _ _ _ (c.in-ok-price.ensures A) in
-    let hy = many_at _ _ 16777216 y c.len.ensures (sym c.if-not-many-within.ensures) in
-    both_fit G A t p y hp hy _ _ (c.slack-of-rows-rows.ensures G) c.slack-of-ropes-ropes.ensures
+    let hp = given_test _ _ _ (c.in_ok-price.ensures A) in
+    let hy = many_at _ _ 16777216 y c.len.ensures (sym c.if-not-many_within.ensures) in
+    both_fit G A t p y hp hy _ _ (c.slack_of_rows-rows.ensures G) c.slack_of_ropes-ropes.ensures
 
-pub less-slack-requires : goal.less-slack-requires
-less-slack-requires g c =
+pub less_slack-requires : goal.less_slack-requires
+less_slack-requires g c =
     let t = c.args.terms.now in
     let p = c.args.p.now in
     let y = c.args.y.now in
     let G = g.T.Table.meant c.args.g.now in
     let A = g.U.Table.meant c.args.a.now in
-    let hp = given_test _ _ _ (c.in-ok-price.ensures A) in
-    let hy = many_at _ _ 16777216 y c.len.ensures (sym c.if-not-many-within.ensures) in
-    slack_small G A t p y hp hy _ _ (c.slack-of-rows-rows.ensures G) c.slack-of-ropes-ropes.ensures
+    let hp = given_test _ _ _ (c.in_ok-price.ensures A) in
+    let hy = many_at _ _ 16777216 y c.len.ensures (sym c.if-not-many_within.ensures) in
+    slack_small G A t p y hp hy _ _ (c.slack_of_rows-rows.ensures G) c.slack_of_ropes-ropes.ensures
 
 pub returns : goal.returns
 returns g c =
@@ -54,14 +54,14 @@ returns g c =
     let y = c.args.y.now in
     let G = g.T.Table.meant c.args.g.now in
     let A = g.U.Table.meant c.args.a.now in
-    let hp = given_test _ _ _ (c.in-ok-price.ensures A) in
-    let hy = many_at _ _ 16777216 y c.len.ensures (sym c.if-not-many-within.ensures) in
-    let fv : SFits w64 c.in-ok-price.price = search rules in
-    let v = to_z-of_z w64 _ fv ∙ given_value _ _ _ (c.in-ok-price.ensures A) in
-    let f : SFits w128 c.less-slack.result = search rules in
-    let e = to_z-of_z w128 _ f ∙ floor_is G A t p y hp hy _ _ (c.slack-of-rows-rows.ensures G) c.slack-of-ropes-ropes.ensures _ c.less-slack.result v c.less-slack.ensures.value in
+    let hp = given_test _ _ _ (c.in_ok-price.ensures A) in
+    let hy = many_at _ _ 16777216 y c.len.ensures (sym c.if-not-many_within.ensures) in
+    let fv : SFits w64 c.in_ok-price.price = search rules in
+    let v = to_z-of_z w64 _ fv ∙ given_value _ _ _ (c.in_ok-price.ensures A) in
+    let f : SFits w128 c.less_slack.result = search rules in
+    let e = to_z-of_z w128 _ f ∙ floor_is G A t p y hp hy _ _ (c.slack_of_rows-rows.ensures G) c.slack_of_ropes-ropes.ensures _ c.less_slack.result v c.less_slack.ensures.value in
     record {
       value = answered _ _ _ (and_from _ _ hp hy) e;
       law = λ s x. rw e (floor_sound (problem_of G A t) s x (places p) (places y));
-      small = rw (to_z-of_z w128 _ f) c.less-slack.ensures.small;
+      small = rw (to_z-of_z w128 _ f) c.less_slack.ensures.small;
     }

@@ -3,19 +3,19 @@ use Rattle.evaluate.proofs.Reading.{summable, c_small, c_read}
 use Rattle.evaluate.proofs.Slacking.{along_small, along_back, weights_small, weights_back, residual_is, residual_back}
 use Rattle.evaluate.proofs.floors.residual.Goals as goal
 
-pub row-of-requires : goal.row-of-requires
-row-of-requires g c = summable c.args.terms.now 32768 c.args.p.now (lit≤ tt) c.requires.point
+pub row_of-requires : goal.row_of-requires
+row_of-requires g c = summable c.args.terms.now 32768 c.args.p.now (lit≤ tt) c.requires.point
 
-pub left-of-requires : goal.left-of-requires
-left-of-requires g c =
+pub left_of-requires : goal.left_of-requires
+left_of-requires g c =
     let t = c.args.terms.now in
     let p = c.args.p.now in
     let y = c.args.y.now in
     let G = g.T.Table.meant c.args.g.now in
     let A = g.U.Table.meant c.args.a.now in
-    let x = along_back G t p y c.requires.point c.requires.weights c.args.j _ c.row-of.ensures in
+    let x = along_back G t p y c.requires.point c.requires.weights c.args.j _ c.row_of.ensures in
     let v = c_read t c.args.j _ c.index.ensures c.requires.rope in
-    let w = weights_back A t y c.requires.weights c.args.j _ c.column-of.ensures in
+    let w = weights_back A t y c.requires.weights c.args.j _ c.column_of.ensures in
     record {
       along = omega (arith, ap nat_abs x, along_small G t p y c.requires.point c.requires.weights c.args.j);
       price = omega (arith, ap nat_abs v, c_small t c.args.j);
@@ -29,8 +29,8 @@ returns g c =
     let y = c.args.y.now in
     let G = g.T.Table.meant c.args.g.now in
     let A = g.U.Table.meant c.args.a.now in
-    let x = along_back G t p y c.requires.point c.requires.weights c.args.j _ c.row-of.ensures in
+    let x = along_back G t p y c.requires.point c.requires.weights c.args.j _ c.row_of.ensures in
     let v = c_read t c.args.j _ c.index.ensures c.requires.rope in
-    let w = weights_back A t y c.requires.weights c.args.j _ c.column-of.ensures in
+    let w = weights_back A t y c.requires.weights c.args.j _ c.column_of.ensures in
     residual_back G A t p y c.requires.point c.requires.weights c.args.j _
-    (residual_is G A t p y c.requires.point c.requires.weights c.args.j _ _ _ c.left-of.result x v w c.left-of.ensures)
+    (residual_is G A t p y c.requires.point c.requires.weights c.args.j _ _ _ c.left_of.result x v w c.left_of.ensures)

@@ -20,8 +20,8 @@ furthest-total-requires g c =
       high = omega (arith, ap nat_abs hi, u_small t c.loop-j.j);
     }
 
-pub overflow-add-total : goal.overflow-add-total
-overflow-add-total g c =
+pub overflow_add-total : goal.overflow_add-total
+overflow_add-total g c =
     let t = c.args.terms.now in
     let p = c.args.p.now in
     let y = c.args.y.now in

@@ -4,8 +4,8 @@ use Rattle.evaluate.proofs.Slacking.{along_small, along_back, weight_back, row_p
 use Rattle.evaluate.proofs.Widening.{turn_fits, turn_more}
 use Rattle.evaluate.proofs.floors.slack_of_rows.Goals as goal
 
-pub row-of-requires : goal.row-of-requires
-row-of-requires g c = summable c.args.terms.now 32768 c.args.p.now (lit≤ tt) c.requires.point
+pub row_of-requires : goal.row_of-requires
+row_of-requires g c = summable c.args.terms.now 32768 c.args.p.now (lit≤ tt) c.requires.point
 
 pub furthest-total-requires : goal.furthest-total-requires
 furthest-total-requires g c =
@@ -13,7 +13,7 @@ furthest-total-requires g c =
     let p = c.args.p.now in
     let y = c.args.y.now in
     let A = g.T.Table.meant c.args.a.now in
-    let x = along_back A t p y c.requires.point c.requires.weights c.loop-i.i _ c.row-of.ensures in
+    let x = along_back A t p y c.requires.point c.requires.weights c.loop-i.i _ c.row_of.ensures in
     let lo = lo_read t c.loop-i.i _ c.index.ensures (omega arith) in
     let hi = hi_read t c.loop-i.i _ c.index-in-loop-i.ensures (omega arith) in
     record {
@@ -22,14 +22,14 @@ furthest-total-requires g c =
       high = omega (arith, ap nat_abs hi, hi_small t c.loop-i.i);
     }
 
-pub overflow-add-total : goal.overflow-add-total
-overflow-add-total g c =
+pub overflow_add-total : goal.overflow_add-total
+overflow_add-total g c =
     let t = c.args.terms.now in
     let p = c.args.p.now in
     let y = c.args.y.now in
     let A = g.T.Table.meant c.args.a.now in
     let w = weight_back A t y c.requires.weights c.loop-i.i _ refl in
-    let x = along_back A t p y c.requires.point c.requires.weights c.loop-i.i _ c.row-of.ensures in
+    let x = along_back A t p y c.requires.point c.requires.weights c.loop-i.i _ c.row_of.ensures in
     let lo = lo_read t c.loop-i.i _ c.index.ensures (omega arith) in
     let hi = hi_read t c.loop-i.i _ c.index-in-loop-i.ensures (omega arith) in
     turn_fits (row_part A t p y c.requires.point c.requires.weights) (row_part_small A t p y c.requires.point c.requires.weights) c.loop-i.i _ _ (omega (arith, t.few)) c.loop-i.invariant
@@ -42,7 +42,7 @@ loop-i-preserved g c =
     let y = c.args.y.now in
     let A = g.T.Table.meant c.args.a.now in
     let w = weight_back A t y c.requires.weights c.loop-i.i _ refl in
-    let x = along_back A t p y c.requires.point c.requires.weights c.loop-i.i _ c.row-of.ensures in
+    let x = along_back A t p y c.requires.point c.requires.weights c.loop-i.i _ c.row_of.ensures in
     let lo = lo_read t c.loop-i.i _ c.index.ensures (omega arith) in
     let hi = hi_read t c.loop-i.i _ c.index-in-loop-i.ensures (omega arith) in
     turn_more (row_part A t p y c.requires.point c.requires.weights) (row_part_small A t p y c.requires.point c.requires.weights) c.loop-i.i _ _ (omega (arith, t.few)) c.loop-i.invariant

@@ -6,20 +6,20 @@ use Rattle.table.proofs.Bounds.{matrix_near}
 use Rattle.evaluate.proofs.Weighing.{running_small, product_small, column_more}
 use Rattle.evaluate.proofs.multipliers.column_of.Goals as goal
 
-pub plus-product-sum-requires : goal.plus-product-sum-requires
-plus-product-sum-requires g c =
+pub plus_product-sum-requires : goal.plus_product-sum-requires
+plus_product-sum-requires g c =
     let grid = g.T.Table.meant c.args.table.now in
     record {
       sum = running_small (matrix_of grid) (matrix_near grid) c.args.y.now c.requires.few c.requires.near c.args.j c.loop-i.i _ c.loop-i-test.true c.loop-i.invariant;
-      product = product_small (matrix_of grid) (matrix_near grid) c.args.y.now c.requires.few c.requires.near c.args.j c.loop-i.i _ c.number-at.ensures;
+      product = product_small (matrix_of grid) (matrix_near grid) c.args.y.now c.requires.few c.requires.near c.args.j c.loop-i.i _ c.number_at.ensures;
     }
 
 pub loop-i-preserved : goal.loop-i-preserved
 loop-i-preserved g c =
     let grid = g.T.Table.meant c.args.table.now in
-    let f : SFits w64 c.plus-product-sum.result = search rules in
-    column_more (matrix_of grid) (matrix_near grid) c.args.y.now c.requires.few c.requires.near c.args.j c.loop-i.i _ _ c.plus-product-sum.result f c.loop-i.invariant
-    c.number-at.ensures c.plus-product-sum.ensures
+    let f : SFits w64 c.plus_product-sum.result = search rules in
+    column_more (matrix_of grid) (matrix_near grid) c.args.y.now c.requires.few c.requires.near c.args.j c.loop-i.i _ _ c.plus_product-sum.result f c.loop-i.invariant
+    c.number_at.ensures c.plus_product-sum.ensures
 
 pub returns : goal.returns
 returns g c =

@@ -4,8 +4,8 @@ use Rattle.evaluate.proofs.Slacking.{blank, weight_back, least_part, least_part_
 use Rattle.evaluate.proofs.Widening.{turn_fits, turn_more}
 use Rattle.evaluate.proofs.refutations.least_needed.Goals as goal
 
-pub overflow-add-total : goal.overflow-add-total
-overflow-add-total c =
+pub overflow_add-total : goal.overflow_add-total
+overflow_add-total c =
     let t = c.args.terms.now in
     let y = c.args.y.now in
     let w = weight_back blank t y c.requires.weights c.loop-i.i _ refl in

@@ -4,12 +4,12 @@ use Rattle.evaluate.proofs.Slacking.{weights_back, most_part, most_part_small, m
 use Rattle.evaluate.proofs.Widening.{turn_fits, turn_more}
 use Rattle.evaluate.proofs.refutations.most_allowed.Goals as goal
 
-pub overflow-add-total : goal.overflow-add-total
-overflow-add-total g c =
+pub overflow_add-total : goal.overflow_add-total
+overflow_add-total g c =
     let t = c.args.terms.now in
     let y = c.args.y.now in
     let A = g.T.Table.meant c.args.a.now in
-    let w = weights_back A t y c.requires.weights c.loop-j.j _ c.column-of.ensures in
+    let w = weights_back A t y c.requires.weights c.loop-j.j _ c.column_of.ensures in
     let lo = l_read t c.loop-j.j _ c.index.ensures (omega arith) in
     let hi = u_read t c.loop-j.j _ c.index-in-loop-j.ensures (omega arith) in
     turn_fits (most_part A t y c.requires.weights) (most_part_small A t y c.requires.weights) c.loop-j.j _ _ (omega (arith, t.some.1)) c.loop-j.invariant
@@ -20,7 +20,7 @@ loop-j-preserved g c =
     let t = c.args.terms.now in
     let y = c.args.y.now in
     let A = g.T.Table.meant c.args.a.now in
-    let w = weights_back A t y c.requires.weights c.loop-j.j _ c.column-of.ensures in
+    let w = weights_back A t y c.requires.weights c.loop-j.j _ c.column_of.ensures in
     let lo = l_read t c.loop-j.j _ c.index.ensures (omega arith) in
     let hi = u_read t c.loop-j.j _ c.index-in-loop-j.ensures (omega arith) in
     turn_more (most_part A t y c.requires.weights) (most_part_small A t y c.requires.weights) c.loop-j.j _ _ (omega (arith, t.some.1)) c.loop-j.invariant

@@ -10,9 +10,9 @@ returns g c =
     let t = c.args.terms.now in
     let y = c.args.y.now in
     let A = g.T.Table.meant c.args.a.now in
-    let hy = many_at _ _ 16777216 y c.len.ensures (sym c.if-not-many-within.ensures) in
+    let hy = many_at _ _ 16777216 y c.len.ensures (sym c.if-not-many_within.ensures) in
     record {
-      value = λ h. answered _ _ _ hy (compared h A t y hy _ _ (c.most-allowed-most.ensures h) (c.least-needed-least.ensures h A));
-      law = λ h. refutes_decides (problem_of h A t) (places y) _ (compared h A t y hy _ _ (c.most-allowed-most.ensures h) (c.least-needed-least.ensures h A));
-      sound = λ h. leaves_none (problem_of h A t) (places y) _ (compared h A t y hy _ _ (c.most-allowed-most.ensures h) (c.least-needed-least.ensures h A));
+      value = λ h. answered _ _ _ hy (compared h A t y hy _ _ (c.most_allowed-most.ensures h) (c.least_needed-least.ensures h A));
+      law = λ h. refutes_decides (problem_of h A t) (places y) _ (compared h A t y hy _ _ (c.most_allowed-most.ensures h) (c.least_needed-least.ensures h A));
+      sound = λ h. leaves_none (problem_of h A t) (places y) _ (compared h A t y hy _ _ (c.most_allowed-most.ensures h) (c.least_needed-least.ensures h A));
     }

@@ -12,9 +12,9 @@ use Rattle.evaluate.proofs.Firsts.{row_decides, finds_broken, finds_kept, found_
 use Rattle.evaluate.proofs.Bounding.{meets, meets_is}
 use Rattle.evaluate.proofs.rows.first_broken_row.Goals as goal
 
-pub row-of-requires : goal.row-of-requires
-row-of-requires g c =
-    let p = many_at _ _ 1073741824 c.args.z.now c.len.ensures (sym c.if-not-many-within.ensures) in
+pub row_of-requires : goal.row_of-requires
+row_of-requires g c =
+    let p = many_at _ _ 1073741824 c.args.z.now c.len.ensures (sym c.if-not-many_within.ensures) in
     summable c.args.terms.now 1073741824 c.args.z.now (le_refl 1073741824) p
 
 pub returns-then-not-between : goal.returns-then-not-between
@@ -22,10 +22,10 @@ returns-then-not-between g c =
     let t = c.args.terms.now in
     let z = c.args.z.now in
     let grid = g.T.Table.meant c.args.a.now in
-    let p = many_at _ _ 1073741824 z c.len.ensures (sym c.if-not-many-within.ensures) in
+    let p = many_at _ _ 1073741824 z c.len.ensures (sym c.if-not-many_within.ensures) in
     let lo = lo_read t c.loop-i.i _ c.index.ensures (omega arith) in
     let hi = hi_read t c.loop-i.i _ c.index-in-loop-i.ensures (omega arith) in
-    let s = row_back (matrix_of grid) (matrix_near grid) z (summable t 1073741824 z (le_refl 1073741824) p) c.loop-i.i c.row-of.result c.row-of.ensures in
+    let s = row_back (matrix_of grid) (matrix_near grid) z (summable t 1073741824 z (le_refl 1073741824) p) c.loop-i.i c.row_of.result c.row_of.ensures in
     let no' = meets_is (matrix_of grid) t z c.loop-i.i _ _ _ false (many_long _ 1073741824 z p) lo hi s c.if-not-between.ensures in
     record {
       value = λ h. found_broken _ (meets (matrix_of grid) t z) c.loop-i.i (vec_len t.lo) p c.loop-i.invariant no' (omega arith);
@@ -38,10 +38,10 @@ loop-i-preserved g c =
     let t = c.args.terms.now in
     let z = c.args.z.now in
     let grid = g.T.Table.meant c.args.a.now in
-    let p = many_at _ _ 1073741824 z c.len.ensures (sym c.if-not-many-within.ensures) in
+    let p = many_at _ _ 1073741824 z c.len.ensures (sym c.if-not-many_within.ensures) in
     let lo = lo_read t c.loop-i.i _ c.index.ensures (omega arith) in
     let hi = hi_read t c.loop-i.i _ c.index-in-loop-i.ensures (omega arith) in
-    let s = row_back (matrix_of grid) (matrix_near grid) z (summable t 1073741824 z (le_refl 1073741824) p) c.loop-i.i c.row-of.result c.row-of.ensures in
+    let s = row_back (matrix_of grid) (matrix_near grid) z (summable t 1073741824 z (le_refl 1073741824) p) c.loop-i.i c.row_of.result c.row_of.ensures in
     first_more (meets (matrix_of grid) t z) c.loop-i.i c.loop-i.invariant
     (meets_is (matrix_of grid) t z c.loop-i.i _ _ _ true (many_long _ 1073741824 z p) lo hi s c.if-not-between.ensures)
 
@@ -50,7 +50,7 @@ returns g c =
     let t = c.args.terms.now in
     let z = c.args.z.now in
     let grid = g.T.Table.meant c.args.a.now in
-    let p = many_at _ _ 1073741824 z c.len.ensures (sym c.if-not-many-within.ensures) in
+    let p = many_at _ _ 1073741824 z c.len.ensures (sym c.if-not-many_within.ensures) in
     let e : c.loop-i.i ≡ vec_len t.lo = omega arith in
     let all = ap (first_not (meets (matrix_of grid) t z)) (sym e) ∙ c.loop-i.invariant in
     record {

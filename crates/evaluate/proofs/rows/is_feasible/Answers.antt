@@ -30,34 +30,34 @@ returns-in-Broken g c =
       law = λ h. decided (problem_of h grid t) (places z) false (no' h);
     }
 
-pub returns-in-NoPoint-first-broken-bound : goal.returns-in-NoPoint-first-broken-bound
-returns-in-NoPoint-first-broken-bound g c =
+pub returns-in-NoPoint-first_broken_bound : goal.returns-in-NoPoint-first_broken_bound
+returns-in-NoPoint-first_broken_bound g c =
     let t = c.args.terms.now in
     let z = c.args.z.now in
     let grid = g.T.Table.meant c.args.a.now in
     let p = kept_point _ (meets (matrix_of grid) t z) (vec_len t.lo) (c.in-Kept.ensures.value grid) in
-    let q = no_point _ (lies t z) (vec_len t.c) (c.in-NoPoint-first-broken-bound.ensures.value grid grid) in
+    let q = no_point _ (lies t z) (vec_len t.c) (c.in-NoPoint-first_broken_bound.ensures.value grid grid) in
     absurd (both_ways _ q (eq-eqb _ _ (many_long _ 1073741824 z p)))
 
-pub returns-in-Broken-first-broken-bound : goal.returns-in-Broken-first-broken-bound
-returns-in-Broken-first-broken-bound g c =
+pub returns-in-Broken-first_broken_bound : goal.returns-in-Broken-first_broken_bound
+returns-in-Broken-first_broken_bound g c =
     let t = c.args.terms.now in
     let z = c.args.z.now in
     let grid = g.T.Table.meant c.args.a.now in
     let p = kept_point _ (meets (matrix_of grid) t z) (vec_len t.lo) (c.in-Kept.ensures.value grid) in
-    let no' = λ (h : Grid). bound_refuses (problem_of h grid t) (places z) _ (c.in-Broken-first-broken-bound.ensures.law h grid) in
+    let no' = λ (h : Grid). bound_refuses (problem_of h grid t) (places z) _ (c.in-Broken-first_broken_bound.ensures.law h grid) in
     record {
       value = λ h. answered _ _ _ p (no' h);
       law = λ h. decided (problem_of h grid t) (places z) false (no' h);
     }
 
-pub returns-in-Kept-first-broken-bound : goal.returns-in-Kept-first-broken-bound
-returns-in-Kept-first-broken-bound g c =
+pub returns-in-Kept-first_broken_bound : goal.returns-in-Kept-first_broken_bound
+returns-in-Kept-first_broken_bound g c =
     let t = c.args.terms.now in
     let z = c.args.z.now in
     let grid = g.T.Table.meant c.args.a.now in
     let p = kept_point _ (meets (matrix_of grid) t z) (vec_len t.lo) (c.in-Kept.ensures.value grid) in
-    let yes' = λ (h : Grid). both_keep (problem_of h grid t) (places z) (c.in-Kept.ensures.law h) (c.in-Kept-first-broken-bound.ensures.law h grid) in
+    let yes' = λ (h : Grid). both_keep (problem_of h grid t) (places z) (c.in-Kept.ensures.law h) (c.in-Kept-first_broken_bound.ensures.law h grid) in
     record {
       value = λ h. answered _ _ _ p (yes' h);
       law = λ h. decided (problem_of h grid t) (places z) true (yes' h);

@@ -17,6 +17,6 @@ returns c =
     let fh : SFits w64 high = c.ranges.high in
     let dl : SFits w64 (x -ℤ low) = fits _ (x -ℤ low) (small_sub (2 ^ 54) 536870912 x low c.requires.x c.requires.low) (omega arith) in
     let dh : SFits w64 (x -ℤ high) = fits _ (x -ℤ high) (small_sub (2 ^ 54) 536870912 x high c.requires.x c.requires.high) (omega arith) in
-    let ea : c.wide-product.result ≡ w *ℤ (x -ℤ low) = simp to_z-of_z at c.wide-product.ensures in
-    let eb : c.wide-product-2.result ≡ w *ℤ (x -ℤ high) = simp to_z-of_z at c.wide-product-2.ensures in
+    let ea : c.wide_product.result ≡ w *ℤ (x -ℤ low) = simp to_z-of_z at c.wide_product.ensures in
+    let eb : c.wide_product-2.result ≡ w *ℤ (x -ℤ high) = simp to_z-of_z at c.wide_product-2.ensures in
     furthest_is w x low high _ _ c.max.result fw dl dh ea eb c.max.ensures.value

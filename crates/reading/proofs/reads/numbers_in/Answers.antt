@@ -5,10 +5,10 @@ use Rattle.reading.proofs.Listed.{listed_none, listed_more}
 use Rattle.reading.proofs.reads.numbers_in.Goals as goal
 
 pub loop-i-init : goal.loop-i-init
-loop-i-init g c = listed_none c.args.columns (matrix_of (g.T.Table.meant c.args.table.now)) _ c.in-ok-list.ensures.items
+loop-i-init g c = listed_none c.args.columns (matrix_of (g.T.Table.meant c.args.table.now)) _ c.in_ok-list.ensures.items
 
 pub loop-i-preserved : goal.loop-i-preserved
-loop-i-preserved g c = listed_more c.loop-i.i c.args.columns (matrix_of (g.T.Table.meant c.args.table.now)) (vec_items c.loop-i.list) _ c.loop-i.invariant c.in-ok-push-row.ensures
+loop-i-preserved g c = listed_more c.loop-i.i c.args.columns (matrix_of (g.T.Table.meant c.args.table.now)) (vec_items c.loop-i.list) _ c.loop-i.invariant c.in_ok-push_row.ensures
 
 pub returns : goal.returns
 returns g c =

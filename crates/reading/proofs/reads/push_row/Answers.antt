@@ -11,10 +11,10 @@ loop-j-init g c = sym (append-nil (vec_items c.args.list.now))
 
 pub loop-j-preserved : goal.loop-j-preserved
 loop-j-preserved g c =
-    let f : SFits w64 c.unwrap-or.result = search rules in
+    let f : SFits w64 c.unwrap_or.result = search rules in
     row_more (vec_items c.args.list.now) (vec_items c.loop-j.list) (vec_items c.push.new.self) (matrix_of (g.T.Table.meant c.args.table.now) c.args.i) c.loop-j.j _
-    c.loop-j.invariant c.in-ok-push.ensures.items
-    (to_z-of_z w64 c.unwrap-or.result f ∙ c.unwrap-or.ensures ∙ ap (λ o. unwrap_or o (pos 0)) c.place.ensures.value)
+    c.loop-j.invariant c.in_ok-push.ensures.items
+    (to_z-of_z w64 c.unwrap_or.result f ∙ c.unwrap_or.ensures ∙ ap (λ o. unwrap_or o (pos 0)) c.place.ensures.value)
 
 pub returns : goal.returns
 returns g c =

@@ -12,10 +12,10 @@ loop-k-init c = below_none c.args.slopes.now (gradient (problem_of c.args.job.no
 
 pub loop-k-preserved : goal.loop-k-preserved
 loop-k-preserved c =
-    let f : SFits w64 c.unwrap-or.result = search rules in
+    let f : SFits w64 c.unwrap_or.result = search rules in
     below_more c.loop-k.k c.loop-k.slopes (gradient (problem_of c.args.job.now) (places c.args.z.now)) _ (omega (arith, c.loop-k-test.true, c.requires.long, c.loop-k.auto.slopes)) c.loop-k.invariant
-    (to_z-of_z w64 c.unwrap-or.result f
-    ∙ c.unwrap-or.ensures
+    (to_z-of_z w64 c.unwrap_or.result f
+    ∙ c.unwrap_or.ensures
     ∙ given_value _ _ c.gradient.result c.gradient.ensures.value (and_from _ _ (lt-ltb _ _ c.loop-k-test.true) c.requires.point))
 
 pub returns : goal.returns

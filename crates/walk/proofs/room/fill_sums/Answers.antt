@@ -13,11 +13,11 @@ loop-i-init c = below_none c.args.sums.now (row_at (problem_of c.args.job.now) (
 
 pub loop-i-preserved : goal.loop-i-preserved
 loop-i-preserved c =
-    let f : SFits w64 c.unwrap-or.result = search rules in
+    let f : SFits w64 c.unwrap_or.result = search rules in
     below_more c.loop-i.i c.loop-i.sums (row_at (problem_of c.args.job.now) (places c.args.z.now)) _ (omega (arith, c.loop-i-test.true, c.requires.long, c.loop-i.auto.sums)) c.loop-i.invariant
-    (to_z-of_z w64 c.unwrap-or.result f
-    ∙ c.unwrap-or.ensures
-    ∙ given_value _ _ c.row-sum.result c.row-sum.ensures (and_from _ _ (lt-ltb _ _ c.loop-i-test.true) (wider c.args.job.now.ropes c.args.z.now c.requires.point)))
+    (to_z-of_z w64 c.unwrap_or.result f
+    ∙ c.unwrap_or.ensures
+    ∙ given_value _ _ c.row_sum.result c.row_sum.ensures (and_from _ _ (lt-ltb _ _ c.loop-i-test.true) (wider c.args.job.now.ropes c.args.z.now c.requires.point)))
 
 pub returns : goal.returns
 returns c =

@@ -10,8 +10,8 @@ shifted-requires c =
       product = bent_in c.args.slope c.args.curve c.args.d c.requires.slope c.requires.curve c.requires.d;
     }
 
-pub overflow-mul-result : goal.overflow-mul-result
-overflow-mul-result c =
+pub overflow_mul-result : goal.overflow_mul-result
+overflow_mul-result c =
     fits (2 ^ 56) _ (gain_in c.args.slope c.args.curve c.args.d c.requires.slope c.requires.curve c.requires.d c.shifted.result c.shifted.ensures) (lit< tt)
 
 pub returns : goal.returns

@@ -15,8 +15,8 @@ index-requires c = g_there c.args.job.now c.loop-i.i c.args.k c.loop-i-test.true
 pub index-requires-in-loop-i : goal.index-requires-in-loop-i
 index-requires-in-loop-i c = g_there c.args.job.now c.args.k c.loop-i.i c.requires.rope c.loop-i-test.true
 
-pub overflow-add-w : goal.overflow-add-w
-overflow-add-w c =
+pub overflow_add-w : goal.overflow_add-w
+overflow_add-w c =
     both_fit _ _ _ _ (g_small c.args.job.now (c.loop-i.i * c.args.job.now.ropes + c.args.k)) (g_small c.args.job.now (c.args.k * c.args.job.now.ropes + c.loop-i.i))
     (g_read c.args.job.now c.loop-i.i c.args.k _ c.index.ensures c.loop-i-test.true c.requires.rope)
     (g_read c.args.job.now c.args.k c.loop-i.i _ c.index-in-loop-i.ensures c.requires.rope c.loop-i-test.true)

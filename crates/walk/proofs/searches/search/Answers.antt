@@ -7,28 +7,28 @@ use Rattle.walk.proofs.searches.search.Goals as goal
 pub loop-k-init : goal.loop-k-init
 loop-k-init c = (refl, ropes_holds (problem_of c.args.job.now) c.args.z.now)
 
-pub try-rope-found-requires : goal.try-rope-found-requires
-try-rope-found-requires c =
+pub try_rope-found-requires : goal.try_rope-found-requires
+try_rope-found-requires c =
     record {
       inside = inside_at _ _ _ c.loop-k.invariant.0 c.requires.inside;
       tracks = tracks_at _ _ _ _ c.loop-k.invariant.0 c.requires.tracks;
       rope = c.loop-k-test.true;
     }
 
-pub returns-then-is-some : goal.returns-then-is-some
-returns-then-is-some c =
+pub returns-then-is_some : goal.returns-then-is_some
+returns-then-is_some c =
     record {
-      value = rope_hit (problem_of c.args.job.now) c.args.z.now c.loop-k.z c.loop-k.k c.try-rope-found.result c.loop-k.invariant.0 c.loop-k-test.true c.loop-k.invariant.1
-          c.try-rope-found.ensures.value c.if-is-some.ensures;
-      point = rope_point c.args.z.now c.loop-k.z c.try-rope-found.new.z c.try-rope-found.result c.args.may c.loop-k.invariant.0 c.try-rope-found.ensures.point;
+      value = rope_hit (problem_of c.args.job.now) c.args.z.now c.loop-k.z c.loop-k.k c.try_rope-found.result c.loop-k.invariant.0 c.loop-k-test.true c.loop-k.invariant.1
+          c.try_rope-found.ensures.value c.if-is_some.ensures;
+      point = rope_point c.args.z.now c.loop-k.z c.try_rope-found.new.z c.try_rope-found.result c.args.may c.loop-k.invariant.0 c.try_rope-found.ensures.point;
     }
 
 pub loop-k-preserved : goal.loop-k-preserved
 loop-k-preserved c = (
-  miss_point c.args.z.now c.loop-k.z c.try-rope-found.new.z c.try-rope-found.result c.args.may c.loop-k.invariant.0 c.try-rope-found.ensures.point
-      c.if-is-some.ensures,
-  rope_miss (problem_of c.args.job.now) c.args.z.now c.loop-k.z c.loop-k.k c.try-rope-found.result c.loop-k.invariant.0 c.loop-k-test.true c.loop-k.invariant.1
-      c.try-rope-found.ensures.value c.if-is-some.ensures,
+  miss_point c.args.z.now c.loop-k.z c.try_rope-found.new.z c.try_rope-found.result c.args.may c.loop-k.invariant.0 c.try_rope-found.ensures.point
+      c.if-is_some.ensures,
+  rope_miss (problem_of c.args.job.now) c.args.z.now c.loop-k.z c.loop-k.k c.try_rope-found.result c.loop-k.invariant.0 c.loop-k-test.true c.loop-k.invariant.1
+      c.try_rope-found.ensures.value c.if-is_some.ensures,
 )
 
 pub returns : goal.returns

@@ -11,53 +11,53 @@ use Rattle.walk.proofs.searches.try_rope.Goals as goal
 pub loop-i-init : goal.loop-i-init
 loop-i-init c = (refl, ap (first (lowers (problem_of c.args.job.now) c.args.z.now)) (left_start c.args.k))
 
-pub try-move-requires : goal.try-move-requires
-try-move-requires c =
+pub try_move-requires : goal.try_move-requires
+try_move-requires c =
     record {
       inside = inside_at _ _ _ c.loop-i.invariant.0 c.requires.inside;
       tracks = tracks_at _ _ _ _ c.loop-i.invariant.0 c.requires.tracks;
       rope = c.requires.rope;
-      small = small_back 16384 c.size-at-size.result c.size-at-size.ensures.bound (lit< tt);
+      small = small_back 16384 c.size_at-size.result c.size_at-size.ensures.bound (lit< tt);
     }
 
-pub try-move-requires-in-loop-i : goal.try-move-requires-in-loop-i
-try-move-requires-in-loop-i c =
+pub try_move-requires-in-loop-i : goal.try_move-requires-in-loop-i
+try_move-requires-in-loop-i c =
     record {
-      inside = inside_at _ _ _ (c.if-try-move.ensures.point ∙ c.loop-i.invariant.0) c.requires.inside;
-      tracks = tracks_at _ _ _ _ (c.if-try-move.ensures.point ∙ c.loop-i.invariant.0) c.requires.tracks;
+      inside = inside_at _ _ _ (c.if-try_move.ensures.point ∙ c.loop-i.invariant.0) c.requires.inside;
+      tracks = tracks_at _ _ _ _ (c.if-try_move.ensures.point ∙ c.loop-i.invariant.0) c.requires.tracks;
       rope = c.requires.rope;
-      small = small_back 16384 c.size-at-size.result c.size-at-size.ensures.bound (lit< tt);
+      small = small_back 16384 c.size_at-size.result c.size_at-size.ensures.bound (lit< tt);
     }
 
-pub returns-then-try-move : goal.returns-then-try-move
-returns-then-try-move c =
-    let s = back_of 16384 c.size-at-size.result _ c.size-at-size.ensures.value (sizes_small c.loop-i.i) (lit< tt) in
+pub returns-then-try_move : goal.returns-then-try_move
+returns-then-try_move c =
+    let s = back_of 16384 c.size_at-size.result _ c.size_at-size.ensures.value (sizes_small c.loop-i.i) (lit< tt) in
     record {
       value = plus_hit (problem_of c.args.job.now) c.args.z.now c.args.k c.loop-i.i _ c.loop-i-test.true s c.loop-i.invariant.1 c.loop-i.z c.loop-i.invariant.0
-          c.if-try-move.ensures.value;
-      point = hit_point c.args.z.now c.loop-i.z c.try-move.new.z (move c.args.k (back c.size-at-size.result) true) c.args.may c.loop-i.invariant.0
-          c.if-try-move.ensures.point;
+          c.if-try_move.ensures.value;
+      point = hit_point c.args.z.now c.loop-i.z c.try_move.new.z (move c.args.k (back c.size_at-size.result) true) c.args.may c.loop-i.invariant.0
+          c.if-try_move.ensures.point;
     }
 
-pub returns-then-try-move-2 : goal.returns-then-try-move-2
-returns-then-try-move-2 c =
-    let s = back_of 16384 c.size-at-size.result _ c.size-at-size.ensures.value (sizes_small c.loop-i.i) (lit< tt) in
-    let e = c.if-try-move.ensures.point ∙ c.loop-i.invariant.0 in
+pub returns-then-try_move-2 : goal.returns-then-try_move-2
+returns-then-try_move-2 c =
+    let s = back_of 16384 c.size_at-size.result _ c.size_at-size.ensures.value (sizes_small c.loop-i.i) (lit< tt) in
+    let e = c.if-try_move.ensures.point ∙ c.loop-i.invariant.0 in
     record {
-      value = minus_hit (problem_of c.args.job.now) c.args.z.now c.args.k c.loop-i.i _ c.loop-i-test.true s c.loop-i.invariant.1 c.loop-i.z c.try-move.new.z
+      value = minus_hit (problem_of c.args.job.now) c.args.z.now c.args.k c.loop-i.i _ c.loop-i-test.true s c.loop-i.invariant.1 c.loop-i.z c.try_move.new.z
           c.loop-i.invariant.0 e
-          c.if-try-move.ensures.value c.if-try-move-2.ensures.value;
-      point = hit_point c.args.z.now c.try-move.new.z c.try-move-in-loop-i.new.z (move c.args.k (back c.size-at-size.result) false) c.args.may e
-          c.if-try-move-2.ensures.point;
+          c.if-try_move.ensures.value c.if-try_move-2.ensures.value;
+      point = hit_point c.args.z.now c.try_move.new.z c.try_move-in-loop-i.new.z (move c.args.k (back c.size_at-size.result) false) c.args.may e
+          c.if-try_move-2.ensures.point;
     }
 
 pub loop-i-preserved : goal.loop-i-preserved
 loop-i-preserved c =
-    let s = back_of 16384 c.size-at-size.result _ c.size-at-size.ensures.value (sizes_small c.loop-i.i) (lit< tt) in
-    let e = c.if-try-move.ensures.point ∙ c.loop-i.invariant.0 in (
-      c.if-try-move-2.ensures.point ∙ e,
-      both_miss (problem_of c.args.job.now) c.args.z.now c.args.k c.loop-i.i _ c.loop-i-test.true s c.loop-i.invariant.1 c.loop-i.z c.try-move.new.z c.loop-i.invariant.0 e
-          c.if-try-move.ensures.value c.if-try-move-2.ensures.value,
+    let s = back_of 16384 c.size_at-size.result _ c.size_at-size.ensures.value (sizes_small c.loop-i.i) (lit< tt) in
+    let e = c.if-try_move.ensures.point ∙ c.loop-i.invariant.0 in (
+      c.if-try_move-2.ensures.point ∙ e,
+      both_miss (problem_of c.args.job.now) c.args.z.now c.args.k c.loop-i.i _ c.loop-i-test.true s c.loop-i.invariant.1 c.loop-i.z c.try_move.new.z c.loop-i.invariant.0 e
+          c.if-try_move.ensures.value c.if-try_move-2.ensures.value,
     )
 
 pub returns : goal.returns

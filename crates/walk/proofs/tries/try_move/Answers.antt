@@ -5,8 +5,8 @@ use Rattle.walk.proofs.Following.{point_small, tame}
 use Rattle.walk.proofs.Tried.{refused, accepted, point_is}
 use Rattle.walk.proofs.tries.try_move.Goals as goal
 
-pub overflow-add-next : goal.overflow-add-next
-overflow-add-next c = omega (arith, ints, point_small c.args.job.now _ c.requires.inside c.args.m.rope, c.step-by.ensures.bound)
+pub overflow_add-next : goal.overflow_add-next
+overflow_add-next c = omega (arith, ints, point_small c.args.job.now _ c.requires.inside c.args.m.rope, c.step-by.ensures.bound)
 
 pub returns-then-not-between : goal.returns-then-not-between
 returns-then-not-between c =

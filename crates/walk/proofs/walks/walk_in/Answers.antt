@@ -14,19 +14,19 @@ sizes_are j s e = let p = and_parts (eqb j.ropes (ropes_in s)) (eqb j.rows (rows
 pub start-requires : goal.start-requires
 start-requires c =
     record {
-      sized = sizes_are c.args.job.now c.args.room.now (sym c.if-not-is-for.ensures);
-      point = a_point c.args.job.now c.args.point.now (c.if-not-in-bounds.ensures.law.0 refl);
+      sized = sizes_are c.args.job.now c.args.room.now (sym c.if-not-is_for.ensures);
+      point = a_point c.args.job.now c.args.point.now (c.if-not-in_bounds.ensures.law.0 refl);
     }
 
 pub descend-requires : goal.descend-requires
-descend-requires c = record { inside = c.if-not-in-bounds.ensures.law.0 refl; tracks = c.start.ensures }
+descend-requires c = record { inside = c.if-not-in_bounds.ensures.law.0 refl; tracks = c.start.ensures }
 
 pub returns : goal.returns
 returns c =
-    let h = sizes_are c.args.job.now c.args.room.now (sym c.if-not-is-for.ensures) in
+    let h = sizes_are c.args.job.now c.args.room.now (sym c.if-not-is_for.ensures) in
     record {
-      value = (sym c.if-not-is-for.ensures, sym c.if-not-in-bounds.ensures.value, c.descend.ensures.value);
-      law = lawful (problem_of c.args.job.now) c.args.budget c.args.point.now c.descend.new.z c.descend.result (c.if-not-in-bounds.ensures.law.0 refl)
+      value = (sym c.if-not-is_for.ensures, sym c.if-not-in_bounds.ensures.value, c.descend.ensures.value);
+      law = lawful (problem_of c.args.job.now) c.args.budget c.args.point.now c.descend.new.z c.descend.result (c.if-not-in_bounds.ensures.law.0 refl)
           c.descend.ensures.value;
       room = (c.descend.ensures.room.0 ∙ sym h.0, c.descend.ensures.room.1 ∙ sym h.1);
     }

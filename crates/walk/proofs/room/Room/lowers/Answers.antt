@@ -6,8 +6,8 @@ use Rattle.walk.proofs.Ticks.{slope_read}
 use Rattle.walk.proofs.Looking.{looks_are, looks_not}
 use Rattle.walk.proofs.room.Room.lowers.Goals as goal
 
-pub outside-after-after-requires : goal.outside-after-after-requires
-outside-after-after-requires c = record { tame = c.requires.tame; rope = c.requires.rope; small = small_back 16384 c.args.d c.requires.small (lit< tt) }
+pub outside_after-after-requires : goal.outside_after-after-requires
+outside_after-after-requires c = record { tame = c.requires.tame; rope = c.requires.rope; small = small_back 16384 c.args.d c.requires.small (lit< tt) }
 
 pub index-requires-2 : goal.index-requires-2
 index-requires-2 c = g_there c.args.job.now c.args.k c.args.k c.requires.rope c.requires.rope
@@ -24,14 +24,14 @@ gain-by-requires c =
 pub returns : goal.returns
 returns c =
     let fo : SFits w64 c.args.self.now.outside = search rules in
-    let fa : SFits w64 c.outside-after-after.result = search rules in
+    let fa : SFits w64 c.outside_after-after.result = search rules in
     let fb : SFits w64 c.gain-by.result = search rules in
-    looks_are c.args.job.now c.args.self.now c.args.k c.args.d (back c.args.d) (back c.args.self.now.outside) _ _ c.outside-after-after.result _
+    looks_are c.args.job.now c.args.self.now c.args.k c.args.d (back c.args.d) (back c.args.self.now.outside) _ _ c.outside_after-after.result _
     c.gain-by.result _ c.lower.result
     (back_is 16384 c.args.d c.requires.small (lit< tt)) (to_z-of_z w64 _ fo)
     (slope_read c.args.job.now c.args.self.now c.requires.tame c.args.k _ c.index.ensures c.requires.rope)
     (g_read c.args.job.now c.args.k c.args.k _ c.index-2.ensures c.requires.rope c.requires.rope)
-    c.outside-after-after.ensures (to_z-of_z w64 _ fa) c.gain-by.ensures (to_z-of_z w64 _ fb) c.lower.ensures
+    c.outside_after-after.ensures (to_z-of_z w64 _ fa) c.gain-by.ensures (to_z-of_z w64 _ fb) c.lower.ensures
 
 pub returns-then-by-ge0 : goal.returns-then-by-ge0
 returns-then-by-ge0 c =

@@ -29,8 +29,8 @@ excess-total-requires c =
       s = moved_in c.args.job.now c.args.self.now c.args.k (back c.args.d) c.requires.tame hd c.loop-i.i _ y;
     }
 
-pub overflow-add-total : goal.overflow-add-total
-overflow-add-total c =
+pub overflow_add-total : goal.overflow_add-total
+overflow_add-total c =
     let hd = small_back 16384 c.args.d c.requires.small (lit< tt) in
     let x = sum_read c.args.job.now c.args.self.now c.requires.tame c.loop-i.i _ c.index.ensures c.loop-i-test.true in
     let w = a_read c.args.job.now c.loop-i.i c.args.k _ c.index-in-loop-i.ensures c.loop-i-test.true c.requires.rope in
