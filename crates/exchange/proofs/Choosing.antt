@@ -1,5 +1,5 @@
 -- The definitions of breaches and choices, case by case.
-use Rattle.std.proofs.Common.{◌≡◌, ℕ, ◌+◌, ◌*◌, ◌^◌, ◌<◌, ◌≤◌, Bool, true, false, cond, ◌&&◌, ltb, List, length, get_or, ℤ, pos, nat_abs, Some, None, vec_items, sym, refl, ap, ◌∙◌, le_refl, arith, le-ltb, lt-ltb}
+use Rattle.std.proofs.Common.{◌≡◌, ℕ, ◌+◌, ◌^◌, ◌<◌, ◌≤◌, Bool, true, false, ltb, List, length, ℤ, pos, nat_abs, Some, vec_items, sym, refl, ap, ◌∙◌, le_refl, le-ltb, lt-ltb}
 use lib.Signed.{lt_z}
 use Rattle.duality.specs.Lists.{places}
 use Rattle.duality.specs.Problem.{Problem, row_at}
@@ -18,7 +18,6 @@ use Rattle.exchange.specs.declared.members.Side.{Side}
 use Rattle.exchange.specs.declared.members.Member.{Member}
 use Rattle.exchange.specs.declared.members.Breach.{Breach}
 use Rattle.exchange.specs.declared.members.Wrong.{Wrong}
-use Rattle.exchange.specs.declared.members.Choice.{Choice}
 use Rattle.exchange.specs.declared.members.Choice.TheVariants.{Enter, Leave, Full, Done}
 use Rattle.exchange.proofs.Folds.{upto_more}
 

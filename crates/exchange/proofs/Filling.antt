@@ -1,7 +1,7 @@
 -- A list that a loop writes place by place, seen in its first places.
-use Rattle.std.proofs.Common.{◌≡◌, ℕ, ◌+◌, ◌-◌, ◌<◌, ◌≤◌, List, [], ◌++◌, map, length, get_or, take, drop, replicate, ℤ, pos, sym, ap, ◌∙◌, subst, arith}
+use Rattle.std.proofs.Common.{◌≡◌, ℕ, ◌-◌, ◌<◌, ◌≤◌, List, ◌++◌, map, length, get_or, take, drop, replicate, ℤ, pos, sym, ap, ◌∙◌, subst, arith}
 use native.Mathlib.Nat.{sub-zero}
-use lib.Ieee.{Float, binary64, of_bits}
+use lib.Ieee.{binary64, of_bits}
 use Rattle.std.specs.List.{range_with_len}
 use borrow.Rule.Slice.PartMut.{post_of}
 use Rattle.exchange.specs.Offers.{filled}

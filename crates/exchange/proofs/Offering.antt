@@ -1,11 +1,10 @@
 -- What is offered lies inside its limits.
-use Rattle.std.proofs.Common.{◌≡◌, ℕ, ◌+◌, ◌<◌, ◌≤◌, Bool, true, false, cond, List, [], ◌∷◌, map, length, get_or, take, ℤ, pos, nat_abs, sym, refl, ap, ◌∙◌, subst, le_refl, arith, le-leb}
+use Rattle.std.proofs.Common.{◌≡◌, ℕ, ◌≤◌, Bool, true, false, cond, List, [], ◌∷◌, length, take, ℤ, pos, nat_abs, sym, ap, ◌∙◌, subst, le_refl, arith, le-leb}
 use lib.Ieee.{Float}
 use Rattle.std.proofs.lemmas.List.FromFn.{length-map-range_with_len, get_or-map-range_with_len}
 use Rattle.std.proofs.lemmas.List.{get_or_past, length-map, length-take-le}
 use Rattle.std.proofs.lemmas.Int.{clamps}
 use Rattle.duality.proofs.Sizes.{sizes}
-use Rattle.std.specs.List.{range_with_len}
 use Rattle.duality.specs.Lists.{places}
 use Rattle.duality.specs.Problem.{Problem}
 use Rattle.job.specs.ProblemBounds.{InBounds, held}
@@ -16,7 +15,6 @@ use Rattle.job.proofs.Holding.{held_in_bounds}
 use Rattle.duality.proofs.Tests.{all_from}
 use Rattle.elimination.specs.Nearest.{nearest}
 use Rattle.exchange.specs.Breaches.{same}
-use Rattle.exchange.specs.Rounding.{pulled}
 use Rattle.exchange.specs.Offers.{filled, inside_bounds, inside_limit, pressure_of, multipliers, pulls_of, pressures_of, offered}
 use Rattle.exchange.specs.ProblemOffers.{OffersInside}
 use Rattle.exchange.specs.declared.members.Limit.{Limit}

@@ -1,8 +1,8 @@
 -- The rounded unknowns, as the choice and the offer take them.
-use Rattle.std.proofs.Common.{◌≡◌, ℕ, ◌+◌, ◌-◌, ◌<◌, ◌≤◌, true, eqb, List, ◌++◌, length, get_or, take, drop, replicate, ℤ, pos, nat_abs, sym, refl, ap, ◌∙◌, subst, arith, eq-eqb, le-leb}
+use Rattle.std.proofs.Common.{◌≡◌, ℕ, ◌+◌, ◌-◌, ◌<◌, ◌≤◌, true, eqb, List, ◌++◌, length, take, drop, replicate, ℤ, pos, nat_abs, sym, ap, ◌∙◌, arith, eq-eqb, le-leb}
 use native.Mathlib.Nat.{sub-zero}
 use lib.Ieee.{Float, nan}
-use Rattle.std.proofs.lemmas.List.{length-map, length-take-le, length-drop, length-append, length-replicate, get_or-map, get_or-take, take-take, drop-take}
+use Rattle.std.proofs.lemmas.List.{length-map, length-take-le, length-drop, get_or-map, get_or-take, take-take, drop-take}
 use Rattle.std.proofs.lemmas.Bool.{and_from}
 use Rattle.duality.specs.Lists.{places}
 use Rattle.duality.specs.Problem.{Problem}

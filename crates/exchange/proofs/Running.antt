@@ -1,5 +1,5 @@
 -- A run, one step after another, and the law of whole runs.
-use Rattle.std.proofs.Common.{◌≡◌, ℕ, zero, suc, ◌+◌, ◌-◌, ◌<◌, ◌≤◌, true, eqb, List, [], ◌∷◌, length, Some, None, sym, refl, ap, ◌∙◌, arith, eq-eqb}
+use Rattle.std.proofs.Common.{◌≡◌, ℕ, zero, suc, ◌+◌, ◌-◌, ◌<◌, ◌≤◌, true, eqb, List, [], ◌∷◌, Some, None, sym, refl, ap, ◌∙◌, arith, eq-eqb}
 use native.Mathlib.Nat.{sub-zero}
 use lib.Ieee.{Float}
 use Rattle.std.proofs.lemmas.Bool.{and_from}
@@ -7,10 +7,9 @@ use Rattle.duality.specs.Problem.{Problem}
 use Rattle.job.specs.Numbers.{has_sizes}
 use Rattle.elimination.specs.Lines.{largest}
 use Rattle.exchange.specs.Steps.{solved_at, step_of, smallest_after, members_after, changed}
-use Rattle.exchange.specs.Runs.{Run, over, stepped, offers_of, or_over, end_of, end_after, step_at, after_step, run_from, exchanged, LawfulRun}
+use Rattle.exchange.specs.Runs.{Run, over, stepped, offers_of, or_over, end_after, step_at, after_step, run_from, exchanged, LawfulRun}
 use Rattle.exchange.specs.declared.members.Member.{Member}
 use Rattle.exchange.specs.declared.members.Offer.{Offer}
-use Rattle.exchange.specs.declared.members.Choice.{Choice}
 use Rattle.exchange.specs.declared.members.Choice.TheVariants.{Enter, Leave, Full, Done}
 use Rattle.exchange.specs.declared.members.Step.{Step}
 use Rattle.exchange.specs.declared.members.Step.TheVariants.{Refused, Stuck, Found}

@@ -1,5 +1,5 @@
 -- A step, put together from its system, its reading and its choice.
-use Rattle.std.proofs.Common.{◌≡◌, ℕ, ◌+◌, ◌<◌, ◌≤◌, true, false, cond, ◌&&◌, eqb, leb, List, length, take, Some, None, Option, sym, refl, ap, ◌∙◌, subst, arith, eqb-true, le-leb}
+use Rattle.std.proofs.Common.{◌≡◌, ℕ, ◌+◌, ◌<◌, ◌≤◌, true, false, eqb, leb, List, length, take, Some, None, Option, refl, ap, ◌∙◌, subst, arith, eqb-true, le-leb}
 use lib.Ieee.{Float, nan}
 use Rattle.std.proofs.lemmas.List.{get_or_append_left, take_at}
 use Rattle.std.proofs.lemmas.Bool.{and_parts}
@@ -9,11 +9,10 @@ use Rattle.job.specs.Numbers.{has_sizes}
 use Rattle.elimination.specs.Lines.{seen, at, inside, solved, solved_in, padded, Solves}
 use Rattle.exchange.specs.Systems.{system_of}
 use Rattle.exchange.specs.Offers.{offered}
-use Rattle.exchange.specs.Steps.{found, solved_at, choice_at, step_of, smallest_after}
+use Rattle.exchange.specs.Steps.{solved_at, choice_at, step_of, smallest_after}
 use Rattle.exchange.specs.declared.members.Member.{Member}
 use Rattle.exchange.specs.declared.members.Offer.{Offer}
 use Rattle.exchange.specs.declared.members.Choice.{Choice}
-use Rattle.exchange.specs.declared.members.Step.{Step}
 use Rattle.exchange.specs.declared.members.Step.TheVariants.{Refused, Stuck, Found}
 
 abbrev pub Pair : Type 0

@@ -1,10 +1,9 @@
 -- The worst breach: no limit that is not held is broken by more.
-use Rattle.std.proofs.Common.{◌≡◌, ℕ, zero, suc, ◌<◌, ◌≤◌, Bool, true, false, cond, ltb, List, length, ℤ, pos, ◌≤ℤ◌, sym, refl, ap, ◌∙◌, ⊎_elim, true≢false, arith, ltb-false}
+use Rattle.std.proofs.Common.{◌≡◌, ℕ, zero, suc, ◌<◌, Bool, true, false, cond, ltb, List, length, ℤ, pos, ◌≤ℤ◌, sym, refl, ⊎_elim, true≢false, arith, ltb-false}
 use lib.Signed.{lt_z}
 use Rattle.std.proofs.lemmas.Int.{ints}
 use Rattle.std.proofs.lemmas.Bool.{cases_lt}
 use Rattle.duality.specs.Problem.{Problem}
-use Rattle.exchange.specs.Members.{Of}
 use Rattle.exchange.specs.Breaches.{holds, breach, worse, worst_row, worst, unbroken, upto, BrokenAtMost}
 use Rattle.exchange.specs.Choice.{most_wrong, chosen, ChosenWell}
 use Rattle.exchange.specs.declared.members.Choice.TheVariants.{Enter, Leave, Full, Done}

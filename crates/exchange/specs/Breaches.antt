@@ -1,5 +1,5 @@
 -- Which limit a point breaks most.
-use Rattle.std.specs.Prelude.{◌≡◌, ℕ, zero, suc, ◌<◌, Bool, true, false, cond, ◌||◌, List, [], ◌∷◌, length, take, ℤ, pos, ◌≤ℤ◌, ◌==◌, int_lt, slice_index_or}
+use Rattle.std.specs.Prelude.{◌≡◌, ℕ, zero, suc, ◌<◌, Bool, false, cond, ◌||◌, List, [], ◌∷◌, length, take, ℤ, pos, ◌≤ℤ◌, ◌==◌, int_lt, slice_index_or}
 use Rattle.duality.specs.Lists.{places}
 use Rattle.duality.specs.Problem.{Problem, row_at}
 use Rattle.job.specs.Rows.{excess}

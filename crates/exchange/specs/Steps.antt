@@ -1,8 +1,8 @@
 -- A step of the exchange, and the whole of it.
-use Rattle.std.specs.Prelude.{◌≡◌, ℕ, zero, suc, ◌+◌, ◌<◌, Bool, true, false, cond, ◌&&◌, List, [], ◌∷◌, ◌++◌, length, take, ℤ, Some, None, Option, ◌==◌, Float}
+use Rattle.std.specs.Prelude.{◌≡◌, ℕ, ◌<◌, Bool, false, cond, ◌&&◌, List, [], ◌∷◌, ◌++◌, length, Some, None, Option, ◌==◌, Float}
 use Rattle.std.specs.List.{remove}
 use Rattle.duality.specs.Problem.{Problem}
-use Rattle.elimination.specs.Lines.{solved, largest, none}
+use Rattle.elimination.specs.Lines.{solved}
 use Rattle.job.specs.Numbers.{problem_of}
 use Rattle.job.specs.declared.numbers.Job.{Job}
 use Rattle.exchange.specs.Members.{Of}
@@ -12,7 +12,6 @@ use Rattle.exchange.specs.Choice.{chosen}
 use Rattle.exchange.specs.Offers.{pulls_of, pressures_of, offered}
 use Rattle.exchange.specs.ProblemOffers.{OffersInside as OffersInsideOf}
 use Rattle.exchange.specs.declared.members.Member.{Member}
-use Rattle.exchange.specs.declared.members.Offer.{Offer}
 use Rattle.exchange.specs.declared.members.Choice.{Choice}
 use Rattle.exchange.specs.declared.members.Choice.TheVariants.{Enter, Leave, Full, Done}
 use Rattle.exchange.specs.declared.members.Step.{Step}

@@ -1,4 +1,4 @@
-use Rattle.std.proofs.Common.{◌≡◌, sym, ◌∙◌, arith}
+use Rattle.std.proofs.Common.{sym, ◌∙◌}
 use Rattle.exchange.proofs.Folds.{holds_more, holds_here, holds_none}
 use Rattle.exchange.proofs.breaches.holds.Goals as goal
 

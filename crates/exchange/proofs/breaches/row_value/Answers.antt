@@ -1,4 +1,4 @@
-use Rattle.std.proofs.Common.{◌≡◌, true, ◌&&◌, ltb, nat_abs, sym, ap, ◌∙◌, arith, w64, SFits, rules, lt-ltb}
+use Rattle.std.proofs.Common.{◌≡◌, true, ◌&&◌, ltb, nat_abs, ap, ◌∙◌, arith, w64, SFits, rules, lt-ltb}
 use Rattle.std.proofs.lemmas.Int.{to_z-of_z}
 use Rattle.std.proofs.lemmas.Bool.{and_from}
 use Rattle.duality.specs.Lists.{places}

@@ -1,4 +1,4 @@
-use Rattle.std.proofs.Common.{◌≡◌, sym, ap, ◌∙◌}
+use Rattle.std.proofs.Common.{sym, ap, ◌∙◌}
 use Rattle.job.specs.Numbers.{problem_of}
 use Rattle.exchange.specs.Breaches.{worse, unbroken}
 use Rattle.exchange.specs.declared.members.Limit.TheVariants.{Row}

@@ -1,4 +1,4 @@
-use Rattle.std.proofs.Common.{◌≡◌, ℕ, map, pos, ap, ◌∙◌}
+use Rattle.std.proofs.Common.{ℕ, map, pos, ap, ◌∙◌}
 use Rattle.std.specs.List.{range_with_len}
 use Rattle.job.specs.Numbers.{problem_of}
 use Rattle.exchange.specs.Offers.{pressure_of, multipliers}

@@ -1,4 +1,4 @@
-use Rattle.std.proofs.Common.{◌≡◌, ℕ, take, pos, ap, ◌∙◌}
+use Rattle.std.proofs.Common.{ℕ, take, pos, ap, ◌∙◌}
 use native.Mathlib.Nat.{sub-zero}
 use Rattle.exchange.specs.Rounding.{pulled}
 use Rattle.exchange.proofs.Filling.{zeros_long, filled_is}

@@ -1,12 +1,10 @@
-use Rattle.std.proofs.Common.{◌≡◌, ℕ, ◌<◌, map, length, get_or, ℤ, pos, sym, ap, ◌∙◌, arith, w64, SFits, rules}
-use lib.Ieee.{nan, binary64, mul}
+use Rattle.std.proofs.Common.{◌≡◌, ℕ, ◌<◌, map, length, get_or, ℤ, pos, sym, ◌∙◌, arith, w64, SFits, rules}
+use lib.Ieee.{nan}
 use Rattle.std.proofs.lemmas.Int.{to_z-of_z}
 use Rattle.std.proofs.lemmas.List.Edits.{fill_by_more}
 use Rattle.std.proofs.lemmas.List.{ext_get_or, get_or-map, length-map}
 use Rattle.job.proofs.Bits.{back}
 use Rattle.elimination.specs.Nearest.{nearest}
-use Rattle.exchange.specs.Rounding.{scaled}
-use Rattle.exchange.proofs.Numbers.{scale_is}
 use Rattle.exchange.proofs.rounds.round_pulls.Goals as goal
 
 pub loop-k-preserved : goal.loop-k-preserved

@@ -1,6 +1,6 @@
-use Rattle.std.proofs.Common.{◌≡◌, ℕ, ◌+◌, ◌-◌, vec_items, sym, ap, ◌∙◌, zero-add, arith, rules}
+use Rattle.std.proofs.Common.{◌+◌, ◌-◌, vec_items, sym, ap, ◌∙◌, zero-add, arith, rules}
 use Rattle.job.specs.Numbers.{problem_of}
-use Rattle.exchange.specs.Runs.{Run, run_from, exchanged, reported}
+use Rattle.exchange.specs.Runs.{Run, run_from, reported}
 use Rattle.exchange.proofs.Running.{turn_on, turn_over, run_starts, run_spent, lawful_run}
 use Rattle.exchange.proofs.runs.run.Goals as goal
 

@@ -1,10 +1,10 @@
-use Rattle.std.proofs.Common.{◌≡◌, ℕ, ◌+◌, ◌-◌, ◌≤◌, true, List, length, take, drop, ℤ, sym, ap, ◌∙◌, subst, arith}
+use Rattle.std.proofs.Common.{◌≡◌, ◌+◌, ◌-◌, ◌≤◌, true, List, length, take, drop, ℤ, sym, ap, ◌∙◌, subst, arith}
 use Rattle.std.proofs.lemmas.List.FromFn.{length-map-range_with_len}
 use Rattle.job.specs.Numbers.{problem_of}
 use Rattle.duality.specs.Tests.{many_within}
 use Rattle.exchange.specs.Rounding.{pulled, pressed}
 use Rattle.exchange.specs.Choice.{chosen}
-use Rattle.exchange.specs.Offers.{pulls_of, pressures_of, multipliers, filled}
+use Rattle.exchange.specs.Offers.{pulls_of, multipliers, filled}
 use Rattle.exchange.proofs.Readings.{front, pulls_long, pressures_long, pulls_same, pressures_same, pulls_point, offer_is}
 use Rattle.exchange.proofs.steps.reading.Goals as goal
 

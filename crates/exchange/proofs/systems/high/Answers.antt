@@ -1,4 +1,4 @@
-use Rattle.std.proofs.Common.{◌≡◌, nat_abs, sym, ap, ◌∙◌, subst, arith}
+use Rattle.std.proofs.Common.{nat_abs, sym, ap, ◌∙◌, subst, arith}
 use Rattle.job.specs.Numbers.{problem_of}
 use Rattle.job.proofs.Reading.{hi_read, hi_small, u_read, u_small}
 use Rattle.exchange.specs.Members.{high, Of}
