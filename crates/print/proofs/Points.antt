@@ -10,6 +10,7 @@ use Rattle.lines.specs.Answers.{first_far, near_check, point_check}
 use Rattle.lines.specs.Texts.{sheet_text}
 use Rattle.opening.specs.declared.refusal.Refusal.TheVariants.{OfferLength}
 use Rattle.table.specs.Grid.{Grid}
+use Rattle.table.specs.declared.interface.Table.{Ghosts}
 use Rattle.calls.specs.States.{State}
 use Rattle.calls.specs.declared.answers.Report.{Report}
 use Rattle.calls.specs.declared.answers.Shown.{Shown}
@@ -49,7 +50,7 @@ shown_near refuted held y z n e = by (eqb (length (replicate n (pos 0))) n) refu
     by true false false = zeros_near n
     by false r h = zeros_near n
 
-pub shown_passes : {G A : Type 0} (mg : G → Grid) (ma : A → Grid) (p : Plan G A) (z : List ℤ) → z ≡ point_of (view mg ma p) → point_check z ≡ Ok tt
+pub shown_passes : {G A : Type 0} {ofG : Ghosts G} {ofA : Ghosts A} (mg : G → Grid) (ma : A → Grid) (p : Plan G A ofG ofA) (z : List ℤ) → z ≡ point_of (view mg ma p) → point_check z ≡ Ok tt
 shown_passes mg ma p z e =
     let n = vec_len p.terms.c in
     point_passes n z p.terms.some.1 (ap (many_within n 32768) e ∙ shown_near p.refuted p.held (vec_items p.proof) (vec_items p.point) n p.pulls)

@@ -10,9 +10,9 @@ pub returns : goal.returns
 returns c =
     let out = c.args.out.now in
     let text = refused_text c.args.refusal.now in
-    let after : c.write-refusal.new.out ≡ print_after text out =
-    c.write-refusal.ensures.after ∙ ap (λ (n : Notice). print_after (refusal_text n.number n.first) out) c.notice-notice.ensures.value in
-    let answer : c.refuse-short.result ≡ print_answer text out =
-    printed_answer out text c.write-refusal.result _ c.refuse-short.ensures
-    (c.write-refusal.ensures.answer ∙ ap (λ (n : Notice). answered (room_check (length out)) (refusal_text n.number n.first)) c.notice-notice.ensures.value) in
-    record { answer = answer; after = after; fits = printed_fits out c.write-refusal.new.out text _ answer after c.write-refusal.auto.out }
+    let after : c.write_refusal.new.out ≡ print_after text out =
+    c.write_refusal.ensures.after ∙ ap (λ (n : Notice). print_after (refusal_text n.number n.first) out) c.notice-notice.ensures.value in
+    let answer : c.refuse_short.result ≡ print_answer text out =
+    printed_answer out text c.write_refusal.result _ c.refuse_short.ensures
+    (c.write_refusal.ensures.answer ∙ ap (λ (n : Notice). answered (room_check (length out)) (refusal_text n.number n.first)) c.notice-notice.ensures.value) in
+    record { answer = answer; after = after; fits = printed_fits out c.write_refusal.new.out text _ answer after c.write_refusal.auto.out }

@@ -7,8 +7,8 @@ use Rattle.session.proofs.runs.run.Goals as goal
 pub loop-i-init : goal.loop-i-init
 loop-i-init g c =
     let s = view g.G.Table.meant g.A.Table.meant c.args.plan.now in
-    let empty = c.in-ok-answers.ensures in
-    (empty.len, empty.capacity, turn_none s c.args.calls.now (vec_items c.in-ok-answers.answers) empty.items)
+    let empty = c.in_ok-answers.ensures in
+    (empty.len, empty.capacity, turn_none s c.args.calls.now (vec_items c.in_ok-answers.answers) empty.items)
 
 pub loop-i-preserved : goal.loop-i-preserved
 loop-i-preserved g c =
@@ -16,21 +16,21 @@ loop-i-preserved g c =
     let t = view g.G.Table.meant g.A.Table.meant c.loop-i.plan in
     let u = view g.G.Table.meant g.A.Table.meant c.make.new.plan in
     let inv = c.loop-i.invariant in
-    let pushed = c.push-reserved.ensures in (
+    let pushed = c.push_reserved.ensures in (
       omega (arith, inv.0, pushed.len),
       omega (arith, inv.1, pushed.capacity),
-      turn_more s c.args.calls.now c.loop-i.i _ (vec_items c.loop-i.answers) (vec_items c.push-reserved.new.self) t u c.in-ok-answer.answer
-          c.loop-i-test.true c.in-ok-answer.ensures pushed.items inv.2,
+      turn_more s c.args.calls.now c.loop-i.i _ (vec_items c.loop-i.answers) (vec_items c.push_reserved.new.self) t u c.in_ok-answer.answer
+          c.loop-i-test.true c.in_ok-answer.ensures pushed.items inv.2,
     )
 
-pub returns-in-err-answer : goal.returns-in-err-answer
-returns-in-err-answer g c =
+pub returns-in_err-answer : goal.returns-in_err-answer
+returns-in_err-answer g c =
     let s = view g.G.Table.meant g.A.Table.meant c.args.plan.now in
     let t = view g.G.Table.meant g.A.Table.meant c.loop-i.plan in
     let u = view g.G.Table.meant g.A.Table.meant c.make.new.plan in
-    let r = c.from-residual-in-err-answer.result in
-    let k = c.from-residual-in-err-answer.ensures in
-    let value = turn_short s c.args.calls.now c.loop-i.i (vec_items c.loop-i.answers) t u c.in-err-answer.field-0.0 r (omega arith) c.in-err-answer.ensures k.1 c.loop-i.invariant.2 in
+    let r = c.from_residual-in_err-answer.result in
+    let k = c.from_residual-in_err-answer.ensures in
+    let value = turn_short s c.args.calls.now c.loop-i.i (vec_items c.loop-i.answers) t u c.in_err-answer.field-0.0 r (omega arith) c.in_err-answer.ensures k.1 c.loop-i.invariant.2 in
     record { value = value; fair = run_fair s u _ r value; law = λ _. IfOk-from_err r _ k.0 }
 
 pub returns : goal.returns

@@ -5,7 +5,7 @@ use Rattle.sheet.proofs.loads.load.Goals as goal
 pub returns : goal.returns
 returns c =
     record {
-      answer = c.open-card.ensures.answer;
-      sound = c.open-card.ensures.sound;
-      again = same_again c.args.card.now (card_back c.args.card.now (λ k. (c.type-inv.card k).fits));
+      answer = c.open_card.ensures.answer;
+      sound = c.open_card.ensures.sound;
+      again = same_again c.args.card.now (card_back c.args.card.now (λ k. (c.type_inv.card k).fits));
     }

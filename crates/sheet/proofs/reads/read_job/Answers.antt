@@ -5,18 +5,18 @@ use Rattle.card.proofs.Whole.{sound}
 use Rattle.sheet.proofs.Counts.{job_read}
 use Rattle.sheet.proofs.reads.read_job.Goals as goal
 
-pub read-lists-requires : goal.read-lists-requires
-read-lists-requires c =
+pub read_lists-requires : goal.read_lists-requires
+read_lists-requires c =
     let card = c.args.card.now in
     let sizes = c.in-Ok.ensures.sizes in
     (sound card (sym c.in-Ok.ensures.value)).full
     ∙ ap (λ (k : ℕ). blocks_in k (m_of card) * 512) (sym sizes.0)
     ∙ ap (λ (k : ℕ). blocks_in c.in-Ok.sizes.ropes k * 512) (sym sizes.1)
 
-pub returns-in-ok-lists : goal.returns-in-ok-lists
-returns-in-ok-lists c =
+pub returns-in_ok-lists : goal.returns-in_ok-lists
+returns-in_ok-lists c =
     let sizes = c.in-Ok.ensures.sizes in (
       true,
       job_read c.args.card.now c.in-Ok.sizes.ropes c.in-Ok.sizes.rows _ _ _ c.in-Ok.ensures.value sizes.0 sizes.1
-          c.curvature.ensures.meant c.rows.ensures.meant c.in-ok-lists.ensures,
+          c.curvature.ensures.meant c.rows.ensures.meant c.in_ok-lists.ensures,
     )

@@ -7,10 +7,10 @@ returns c =
     let s = c.args.sizes.now in
     let x : CardLists
     = record {
-      costs = c.in-ok-read-section.field-0;
-      bounds = c.in-ok-read-section-2.field-0;
-      limits = c.in-ok-read-section-3.field-0;
-      slip = c.in-ok-read-section-4.field-0;
+      costs = c.in_ok-read_section.field-0;
+      bounds = c.in_ok-read_section-2.field-0;
+      limits = c.in_ok-read_section-3.field-0;
+      slip = c.in_ok-read_section-4.field-0;
     } in
-    lists_read c.args.card.now s.ropes s.rows x c.in-ok-read-section.ensures c.in-ok-read-section-2.ensures
-    c.in-ok-read-section-3.ensures c.in-ok-read-section-4.ensures
+    lists_read c.args.card.now s.ropes s.rows x c.in_ok-read_section.ensures c.in_ok-read_section-2.ensures
+    c.in_ok-read_section-3.ensures c.in_ok-read_section-4.ensures

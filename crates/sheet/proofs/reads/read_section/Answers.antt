@@ -8,18 +8,18 @@ use Rattle.sheet.proofs.Gathering.{by_more, wide_back}
 use Rattle.sheet.proofs.reads.read_section.Goals as goal
 
 pub loop-q-init : goal.loop-q-init
-loop-q-init c = c.in-ok-numbers.ensures.items
+loop-q-init c = c.in_ok-numbers.ensures.items
 
 pub loop-q-preserved : goal.loop-q-preserved
 loop-q-preserved c =
-    let f : SFits w32 c.unwrap-or-number.result = search rules in
+    let f : SFits w32 c.unwrap_or-number.result = search rules in
     by_more (λ q. unwrap_or (number_at c.args.card.now (c.first.result * 512 + spot_of q)) (pos 0)) c.loop-q.q (vec_items c.loop-q.numbers) (vec_items c.push.new.self)
-    (to_z w64 (of_z w64 (to_z w32 (of_z w32 c.unwrap-or-number.result))))
-    c.loop-q.invariant c.in-ok-push.ensures.items
-    (wide_back c.unwrap-or-number.result f
-    ∙ c.unwrap-or-number.ensures
-    ∙ ap (λ (o : Option ℤ). unwrap_or o (pos 0)) c.number-at.ensures
-    ∙ ap (λ (s : ℕ). unwrap_or (number_at c.args.card.now (c.first.result * 512 + s)) (pos 0)) c.spot-of.ensures.value)
+    (to_z w64 (of_z w64 (to_z w32 (of_z w32 c.unwrap_or-number.result))))
+    c.loop-q.invariant c.in_ok-push.ensures.items
+    (wide_back c.unwrap_or-number.result f
+    ∙ c.unwrap_or-number.ensures
+    ∙ ap (λ (o : Option ℤ). unwrap_or o (pos 0)) c.number_at.ensures
+    ∙ ap (λ (s : ℕ). unwrap_or (number_at c.args.card.now (c.first.result * 512 + s)) (pos 0)) c.spot_of.ensures.value)
 
 pub returns : goal.returns
 returns c =

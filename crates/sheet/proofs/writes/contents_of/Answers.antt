@@ -7,5 +7,5 @@ unreachable-requires g c =
     c.in-None.ensures
     (counted c.args.sizes c.ropes-n.result c.rows-m.result (g.G.Table.meant c.args.g.now) (g.A.Table.meant c.args.a.now) (numbers_of c.args.lists.now) _ _ _ _ _ _
     c.requires.fits c.requires.ropes c.requires.rows c.ropes-n.ensures c.rows-m.ensures
-    c.in-ok-curvature.ensures c.in-ok-rows.ensures c.in-ok-costs.ensures
-    c.in-ok-bounds.ensures c.in-ok-limits.ensures c.in-ok-slip.ensures)
+    c.in_ok-curvature.ensures c.in_ok-rows.ensures c.in_ok-costs.ensures
+    c.in_ok-bounds.ensures c.in_ok-limits.ensures c.in_ok-slip.ensures)
