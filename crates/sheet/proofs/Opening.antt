@@ -12,6 +12,7 @@ use Rattle.calls.specs.States.{State}
 use Rattle.calls.specs.Steps.{unless}
 use Rattle.plan.specs.declared.state.Plan.{Plan}
 use Rattle.plan.specs.View.{view}
+use Rattle.table.specs.declared.interface.Table.{Ghosts}
 use Rattle.sheet.specs.Loading.{load_answer, viewed}
 use Rattle.sheet.specs.Reading.{Job, job_on, lists_on, passed_or, read_answer}
 
@@ -28,10 +29,7 @@ read_by (Ok u) false j k e = let z : ◌≡◌ {A = ℕ} 0 1 = cc in absurd (ome
 read_by (Err f) memory j k e = let z : ◌≡◌ {A = ℕ} 0 1 = cc in absurd (omega arith)
 
 module _ (card : List ℕ) where
-  abbrev Answers : Result (Plan CardTable CardTable) Refusal → Type 0
-  Answers r = (memory : Bool) × (viewed r ≡ load_answer memory card)
-
-  pub not_read : (refusal : Refusal) → ((memory : Bool) × (Err refusal ≡ read_answer memory card)) → Answers (Err refusal)
+  pub not_read : (refusal : Refusal) → ((memory : Bool) × (Err refusal ≡ read_answer memory card)) → (memory : Bool) × (Err refusal ≡ load_answer memory card)
   not_read refusal e =
       refused_by (card_check card) e.0 (job_on card)
       (unless (open_fault (curvature_grid card) (rows_grid card) (lists_on card)) (opened (curvature_grid card) (rows_grid card) (lists_on card))) refusal e.1
@@ -46,22 +44,27 @@ module _ (card : List ℕ) where
     with_fault : (o : Option Refusal) → fault ≡ o → load_answer true card ≡ unless o new
     with_fault o e = ap (λ (v : Verdict). passed_or v (unless fault new)) ok ∙ ap (λ (p : Option Refusal). unless p new) e
 
-    opens : (r : Result (Plan CardTable CardTable) Refusal) → Opens (view grid_of grid_of) (curvature_grid card) (rows_grid card) (lists_on card) r → Answers r
-    opens (Ok p) o = (true, ap Ok o.1 ∙ sym (with_fault None o.0))
+module _ {ofG ofA : Ghosts CardTable} (card : List ℕ) where
+  abbrev Answers : Result (Plan CardTable CardTable ofG ofA) Refusal → Type 0
+  Answers r = (memory : Bool) × (viewed r ≡ load_answer memory card)
+
+  module _ (ok : card_check card ≡ Ok tt) where
+    opens : (r : Result (Plan CardTable CardTable ofG ofA) Refusal) → Opens (view grid_of grid_of) (curvature_grid card) (rows_grid card) (lists_on card) r → Answers r
+    opens (Ok p) o = (true, ap Ok o.1 ∙ sym (with_fault card ok None o.0))
     opens (Err refusal) o =
         ⊎_elim
-        (λ (named : fault ≡ Some refusal). (true, sym (with_fault (Some refusal) named)))
-        (λ (lacking : (fault ≡ None) × (refusal ≡ Memory)). (false, ap Err lacking.1 ∙ sym (ap (λ (v : Verdict). passed_or v (Err Memory)) ok)))
+        (λ (named : fault card ok ≡ Some refusal). (true, sym (with_fault card ok (Some refusal) named)))
+        (λ (lacking : (fault card ok ≡ None) × (refusal ≡ Memory)). (false, ap Err lacking.1 ∙ sym (ap (λ (v : Verdict). passed_or v (Err Memory)) ok)))
         o
 
-    stands : (r : Result (Plan CardTable CardTable) Refusal) → Opens (view grid_of grid_of) (curvature_grid card) (rows_grid card) (lists_on card) r
+    stands : (r : Result (Plan CardTable CardTable ofG ofA) Refusal) → Opens (view grid_of grid_of) (curvature_grid card) (rows_grid card) (lists_on card) r
         → IfOk r (λ p. Sound (curvature_grid card) (rows_grid card) (lists_on card) (view grid_of grid_of p))
     stands (Ok p) o = o.2
     stands (Err refusal) o = tt
 
   -- what opening says of the job that was read
   module _ (j : Job) (read : (memory : Bool) × (Ok j ≡ read_answer memory card)) (x : Numbers) (same : x ≡ j.x)
-      (r : Result (Plan CardTable CardTable) Refusal) (o : Opens (view grid_of grid_of) j.g j.a x r) where
+      (r : Result (Plan CardTable CardTable ofG ofA) Refusal) (o : Opens (view grid_of grid_of) j.g j.a x r) where
     passes : card_check card ≡ Ok tt
     passes = (read_by (card_check card) read.0 j (job_on card) read.1).0
 

@@ -11,9 +11,10 @@ use Rattle.calls.specs.States.{State}
 use Rattle.calls.specs.Steps.{unless}
 use Rattle.plan.specs.declared.state.Plan.{Plan}
 use Rattle.plan.specs.View.{view}
+use Rattle.table.specs.declared.interface.Table.{Ghosts}
 use Rattle.sheet.specs.Reading.{passed_or, lists_on}
 
-abbrev pub viewed : Result (Plan CardTable CardTable) Refusal → Result State Refusal
+abbrev pub viewed : {ofG ofA : Ghosts CardTable} → Result (Plan CardTable CardTable ofG ofA) Refusal → Result State Refusal
 viewed (Ok p) = Ok (view grid_of grid_of p)
 viewed (Err refusal) = Err refusal
 

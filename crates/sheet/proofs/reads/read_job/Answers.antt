@@ -13,10 +13,10 @@ read_lists-requires c =
     ∙ ap (λ (k : ℕ). blocks_in k (m_of card) * 512) (sym sizes.0)
     ∙ ap (λ (k : ℕ). blocks_in c.in-Ok.sizes.ropes k * 512) (sym sizes.1)
 
-pub returns-in_ok-lists : goal.returns-in_ok-lists
-returns-in_ok-lists c =
+pub returns-in_ok-lists-in-Ok : goal.returns-in_ok-lists-in-Ok
+returns-in_ok-lists-in-Ok c =
     let sizes = c.in-Ok.ensures.sizes in (
       true,
       job_read c.args.card.now c.in-Ok.sizes.ropes c.in-Ok.sizes.rows _ _ _ c.in-Ok.ensures.value sizes.0 sizes.1
-          c.curvature.ensures.meant c.rows.ensures.meant c.in_ok-lists.ensures,
+          c.curvature.ensures.meant c.rows.ensures.meant c.in_ok-lists-in-Ok.ensures,
     )
