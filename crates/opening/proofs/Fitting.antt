@@ -1,17 +1,16 @@
 -- Each check finds no fault exactly where its part fits.
-use Rattle.std.proofs.Common.{◌≡◌, ℕ, ◌*◌, ◌<◌, ◌≤◌, Bool, true, false, cond, ◌&&◌, ◌||◌, eqb, ltb, leb, ◌⊎◌, List, length, ℤ, pos, nat_abs, ◌≤ℤ◌, is_some, Some, None, Option, unwrap_or, sym, refl, ap, ◌∙◌, inl, inr, ⊎_elim, arith}
+use Rattle.std.proofs.Common.{◌≡◌, ℕ, ◌*◌, ◌≤◌, true, ◌&&◌, ◌||◌, eqb, ltb, leb, List, length, ℤ, pos, nat_abs, ◌≤ℤ◌, is_some, Some, None, Option, unwrap_or, sym, refl, ap, ◌∙◌, inl, inr, ⊎_elim, arith}
 use lib.Signed.{le_z}
 use Rattle.std.proofs.lemmas.Bool.{and_parts, and_from, or_cases, or_left, or_right, cond-true, ltb-true, lt-ltb, leb-true, le-leb, eqb-true, eq-eqb, false≢true}
 use Rattle.std.specs.Option.{option_map, option_or}
-use Rattle.duality.specs.Convex.{Symmetric, SlipHolds, remainder, around}
+use Rattle.duality.specs.Convex.{Symmetric, SlipHolds, remainder}
 use Rattle.duality.specs.Lists.{places, by_rows}
 use Rattle.duality.specs.Sums.{Matrix}
-use Rattle.duality.specs.Tests.{first_not, within, all_within}
+use Rattle.duality.specs.Tests.{first_not, within}
 use Rattle.duality.proofs.Ring.{lin}
 use Rattle.duality.proofs.Slip.{slip_sound}
 use Rattle.duality.proofs.Tests.{all_from, first_none, le_z_le, le_le_z}
 use Rattle.table.specs.Grid.{Grid, height_of, width_of, place_of, matrix_of}
-use Rattle.opening.specs.Firsts.{first_of}
 use Rattle.opening.specs.Fits.{Sized, Filled, Long, Near, Limited, Ordered, Fits, TellsFit}
 use Rattle.opening.specs.Opening.{
   Numbers,
@@ -40,7 +39,7 @@ use Rattle.opening.specs.Opening.{
 use Rattle.opening.specs.declared.refusal.List.{List as Name}
 use Rattle.opening.specs.declared.refusal.List.TheVariants as name
 use Rattle.opening.specs.declared.refusal.Refusal.{Refusal}
-use Rattle.opening.specs.declared.refusal.Refusal.TheVariants.{Sizes, Place, Asymmetric, Length, Limit, Slip}
+use Rattle.opening.specs.declared.refusal.Refusal.TheVariants.{Place, Asymmetric, Length, Limit, Slip}
 use Rattle.opening.proofs.Firsts.{or_none, or_both, of_none, of_all, mapped_none, cond_none, first_all, six_none, six_in}
 
 -- sizes

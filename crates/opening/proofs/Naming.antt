@@ -1,17 +1,16 @@
 -- What is named is at fault.
-use Rattle.std.proofs.Common.{◌≡◌, ℕ, zero, suc, ◌<◌, ◌≤◌, Bool, true, false, cond, eqb, ◌⊎◌, List, length, ℤ, pos, nat_abs, ◌<ℤ◌, IfSome, Some, None, Option, unwrap_or, sym, refl, ◌∙◌, inl, inr, ⊎_elim, arith}
+use Rattle.std.proofs.Common.{◌≡◌, ℕ, zero, suc, ◌<◌, Bool, true, false, cond, eqb, ◌⊎◌, length, ℤ, pos, nat_abs, ◌<ℤ◌, IfSome, Some, None, Option, unwrap_or, sym, refl, inl, inr, ⊎_elim, arith}
 use lib.Signed.{le_z}
 use Rattle.std.proofs.lemmas.Int.{ints}
 use Rattle.std.proofs.lemmas.Bool.{both_ways, cases_order, leb-false, eqb-false}
 use Rattle.std.specs.Option.{option_or, option_map}
-use Rattle.duality.specs.Convex.{remainder, around}
+use Rattle.duality.specs.Convex.{remainder}
 use Rattle.duality.specs.Lists.{places, by_rows}
 use Rattle.duality.specs.Tests.{first_not, or_here, within}
 use Rattle.duality.proofs.Tests.{first_none}
 use Rattle.table.specs.Grid.{Grid, height_of, width_of, place_of, matrix_of}
-use Rattle.opening.specs.Faults.{list_of, length_for, limit_for, Above, Unfilled, Unlike, Beyond, AtFault, Truly}
+use Rattle.opening.specs.Faults.{list_of, length_for, limit_for, Unfilled, AtFault, Truly}
 use Rattle.opening.specs.Firsts.{first_of}
-use Rattle.opening.specs.Fits.{Sized}
 use Rattle.opening.specs.Opening.{Numbers, is_square, is_lined, size_fault, sizes_fault, is_number, line_fault, places_fault, same, mirror_fault, symmetry_fault, tables_fault, length_fault, lengths_fault, limit_fault, limits_fault, order_fault, orders_fault, dominates, slip_fault, open_fault}
 use Rattle.opening.specs.declared.refusal.List.{List as Name}
 use Rattle.opening.specs.declared.refusal.List.TheVariants as name

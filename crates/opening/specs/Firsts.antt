@@ -1,5 +1,5 @@
 -- The first of several answers.
-use Rattle.std.specs.Prelude.{ℕ, zero, suc, Some, None, Option}
+use Rattle.std.specs.Prelude.{ℕ, zero, suc, None, Option}
 use Rattle.std.specs.Option.{option_or}
 
 -- the first that is given of f 0, f 1, .. below n

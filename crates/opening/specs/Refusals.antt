@@ -1,7 +1,6 @@
 -- How a refusal of a plan is told: a number, the layer that met it, and two places, 0 where there is none.
 -- A fault of a card is told as the card tells it.
 use Rattle.std.specs.Prelude.{◌≡◌, ℕ}
-use Rattle.block.specs.declared.fault.Layer.{Layer}
 use Rattle.block.specs.declared.fault.Layer.TheVariants.{Table, Plan}
 use Rattle.block.specs.declared.fault.Notice.{Notice}
 use Rattle.block.specs.Notices as card

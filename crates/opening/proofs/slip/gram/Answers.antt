@@ -1,5 +1,4 @@
-use Rattle.std.proofs.Common.{◌≡◌, ℕ, ap, ◌∙◌, arith, w64, SFits, rules}
-use Rattle.duality.specs.Lists.{by_rows}
+use Rattle.std.proofs.Common.{arith, w64, SFits, rules}
 use Rattle.opening.proofs.Slips.{inside, sum_small, product_small, gram_more}
 use Rattle.opening.proofs.slip.gram.Goals as goal
 

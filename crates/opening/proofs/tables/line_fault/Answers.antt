@@ -1,4 +1,4 @@
-use Rattle.std.proofs.Common.{◌≡◌, ◌<◌, sym, ap, ◌∙◌, subst}
+use Rattle.std.proofs.Common.{◌<◌, sym, ap, ◌∙◌, subst}
 use Rattle.duality.proofs.Tests.{first_more}
 use Rattle.table.specs.Grid.{place_of, width_of}
 use Rattle.opening.specs.declared.refusal.Refusal.TheVariants.{Place}

@@ -1,4 +1,4 @@
-use Rattle.std.proofs.Common.{◌≡◌, ◌<◌, sym, ◌∙◌, subst, arith}
+use Rattle.std.proofs.Common.{◌<◌, sym, subst, arith}
 use Rattle.duality.proofs.Tests.{first_more}
 use Rattle.table.specs.Grid.{matrix_of, width_of}
 use Rattle.table.proofs.Bounds.{matrix_near}
