@@ -1,6 +1,6 @@
 -- The whole table as one computed test: what the definitions give for all questions is what is said of all of them.
 use Rattle.std.proofs.Common.{◌≡◌, List, [], ◌∷◌, map, refl, ap}
-use Rattle.std.specs.List.{AllByRecursion as All}
+use Rattle.std.specs.List.{AllByRecursion}
 use Rattle.duality.specs.Problem.{cost}
 use Rattle.duality.specs.Convex.{remainder, around}
 use Rattle.duality.specs.Floor.{residual, slack}
@@ -10,7 +10,7 @@ use Rattle.tried.specs.Telling.{Told, answers}
 use Rattle.tried.specs.Cases.{Case, AllHold, cases}
 
 -- two functions that agree along a list agree at each of its elements
-alike : {X Y : Type 0} (f g : X → Y) (xs : List X) → map f xs ≡ map g xs → All (λ x. f x ≡ g x) xs
+alike : {X Y : Type 0} (f g : X → Y) (xs : List X) → map f xs ≡ map g xs → AllByRecursion (λ x. f x ≡ g x) xs
 alike f g [] e = tt
 alike f g (x ∷ xs) e = (first, alike f g xs rest)
   where

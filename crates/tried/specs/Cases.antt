@@ -1,6 +1,6 @@
 -- The cases that were tried by hand.
 use Rattle.std.specs.Prelude.{◌≡◌, ℕ, true, false, List, [], ◌∷◌, ℤ, pos, neg_ℤ, Some}
-use Rattle.std.specs.List.{AllByRecursion as All}
+use Rattle.std.specs.List.{AllByRecursion}
 use Rattle.duality.specs.Lists.{by_rows}
 use Rattle.table.specs.Grid.{Grid}
 use Rattle.opening.specs.Opening.{Numbers}
@@ -24,7 +24,7 @@ abbrev pub Holds : Case → Type 0
 Holds c = answers c.question ≡ c.said
 
 abbrev pub AllHold : List Case → Type 0
-AllHold = All Holds
+AllHold = AllByRecursion Holds
 
 -- numbers, and tables of numbers row by row
 
