@@ -1,7 +1,7 @@
 #!/usr/bin/env python3
 """One job of 16 ropes and 32 rows on which the walk is long, as a line for the program `vectors`: a chain of neighbouring ropes that hold each other.
 
-  python3 tools/long_walk.py | (time target/bin/vectors)
+  python3 tools/long_walk.py | (time crates/vectors/out/vectors)
 """
 import random
 

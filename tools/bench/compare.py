@@ -3,7 +3,7 @@
 
   python3 tools/bench/compare.py [NAME..]     every set of cards, or those that are named
 
-Both must stand in target/ (docs/BENCH.md has the commands). What they write must be the same, byte for byte. Each runs five times, in
+docs/BENCH.md has the commands that build both. What they write must be the same, byte for byte. Each runs five times, in
 turns; a time is the processor time of the whole process, and the median counts. Seeds are fixed, so the cards can be made again."""
 import os
 import random
@@ -19,7 +19,7 @@ sys.path.insert(0, os.path.dirname(HERE))
 import card as cards
 import sheets
 
-PROVED = os.path.join(ROOT, "target/bin/sheets")
+PROVED = os.path.join(ROOT, "crates/sheets/out/sheets")
 OTHER = os.path.join(ROOT, "target/bench")
 TIMES = 5
 
