@@ -1,6 +1,6 @@
 //! What a plan computes over its two tables of any kind: each answer is that of the problem which the tables and the terms state.
 //!
-//! A blank of a table counts as 0, so nothing is asked of the tables; `problemOf` in specs/ says which problem it is.
+//! A blank of a table counts as 0, so nothing is asked of the tables; `problem_of` in specs/ says which problem it is.
 #![tactic(auto)]
 
 mod bounds;

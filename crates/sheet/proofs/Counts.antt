@@ -18,7 +18,7 @@ use Rattle.card.specs.Faults.{n_of, m_of, card_check}
 use Rattle.card.specs.Grids.{curvature_grid, rows_grid}
 use Rattle.opening.specs.Opening.{Numbers}
 use Rattle.sheet.specs.Reading.{Job, job_on, lists_of, lists_in, lists_on, lower, passed_or, read_answer, upper}
-use Rattle.sheet.specs.declared.job.CardLists.{CardLists}
+use Rattle.sheet.specs.declared.card_job.CardLists.{CardLists}
 
 pub same_lists_of : (x y : Numbers) → x.c ≡ y.c → x.l ≡ y.l → x.u ≡ y.u → x.lo ≡ y.lo → x.hi ≡ y.hi → x.slip ≡ y.slip → x ≡ y
 same_lists_of x y c l u lo hi slip = λ i. record { c = c i; l = l i; u = u i; lo = lo i; hi = hi i; slip = slip i }

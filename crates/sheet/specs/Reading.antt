@@ -9,8 +9,8 @@ use Rattle.card.specs.Grids.{curvature_grid, rows_grid, grid_of}
 use Rattle.opening.specs.Opening.{Numbers}
 use Rattle.opening.specs.declared.refusal.Refusal.{Refusal}
 use Rattle.opening.specs.declared.refusal.Refusal.TheVariants.{Memory, Card}
-use Rattle.sheet.specs.declared.job.CardJob.{CardJob}
-use Rattle.sheet.specs.declared.job.CardLists.{CardLists}
+use Rattle.sheet.specs.declared.card_job.CardJob.{CardJob}
+use Rattle.sheet.specs.declared.card_job.CardLists.{CardLists}
 
 -- the lists of a card of n ropes and m rows: bounds and limits have their lower numbers first
 abbrev pub lists_in : List ℕ → ℕ → ℕ → Numbers

@@ -1,7 +1,7 @@
 //! Jobs to cards, and cards to jobs.
 #![tactic(auto)]
 
-mod job;
+mod card_job;
 mod loads;
 mod numbers;
 mod reads;

@@ -5,7 +5,7 @@ ghost use Rattle.section.specs.Numbers.{numbers_in};
 ghost use Rattle.opening.specs.Opening.{numbers_of};
 ghost use Rattle.sheet.specs.Reading.{lists_in, lists_of, read_answer, seen};
 
-use crate::job::{CardJob, CardLists};
+use crate::card_job::{CardJob, CardLists};
 use block::number_at;
 use card::{CardTable, Kind, Sizes, check_card};
 use opening::{Lists, Refusal};

@@ -1,4 +1,4 @@
-use Rattle.sheet.specs.declared.job.CardLists.{CardLists}
+use Rattle.sheet.specs.declared.card_job.CardLists.{CardLists}
 use Rattle.sheet.proofs.Counts.{lists_read}
 use Rattle.sheet.proofs.reads.read_lists.Goals as goal
 
