@@ -1,7 +1,7 @@
 //! Whole jobs, each from its card to the text that is shown, by an independent writing of the rules in Rust: what the proved code is
 //! compared with, answer by answer and by its time.
 //!
-//!   rustc --edition 2021 -C opt-level=3 -C codegen-units=1 -o target/bench tools/bench/main.rs
+//!   mkdir -p target; rustc --edition 2021 -C opt-level=3 -C codegen-units=1 -o target/bench tools/bench/main.rs
 //!   target/bench < CARDS
 //!
 //! A card of standard input is its length in two bytes, the low one first, and its bytes. After the sheet of a job that opens comes a

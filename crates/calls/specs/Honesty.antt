@@ -36,13 +36,13 @@ ShowsAtMost (Point q d) v = q ≤ℤ v
 ShowsAtMost NoPoint v = ⊥
 
 -- of a problem and of the offers made since the last amendment: r is shown, and the list handed over then holds z
-pub record Honest (P : Problem) (Was-offered : Offer → Type 0) (r : Shown) (z : List ℤ) : Type 0 where
+pub record Honest (P : Problem) (WasOffered : Offer → Type 0) (r : Shown) (z : List ℤ) : Type 0 where
   pub point_meets_all : ShowsPoint P r r.found z
   pub floor_holds : (x : List ℤ) → Meets P x → r.floor ≤ℤ (pos 256 *ℤ cost P (places x))
   pub none_is_true : SaysNone r.found → (x : List ℤ) → Meets P x → ⊥
-  pub none_is_said : (y : List ℤ) → Was-offered (proof y) → LawfulProof P y → SaysNone r.found
-  pub no_point_lost : (x : List ℤ) → Was-offered (point x) → LawfulPoint P x → ShowsAtMost r.found (cost P (places x))
-  pub no_floor_lost : (q : Pair) → Was-offered (pair q) → LawfulPair P q → floor_of P q ≤ℤ r.floor
+  pub none_is_said : (y : List ℤ) → WasOffered (proof y) → LawfulProof P y → SaysNone r.found
+  pub no_point_lost : (x : List ℤ) → WasOffered (point x) → LawfulPoint P x → ShowsAtMost r.found (cost P (places x))
+  pub no_floor_lost : (q : Pair) → WasOffered (pair q) → LawfulPair P q → floor_of P q ≤ℤ r.floor
 
 -- what is held is lawful, and the cost is convex
 abbrev pub Held : Option (List ℤ) → (List ℤ → Type 0) → Type 0

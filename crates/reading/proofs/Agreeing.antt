@@ -9,7 +9,7 @@ module _ (P Q : Problem) (h : Agrees P Q) where
   same_row : (z : Vector) (i : ℕ) → i < Q.rows → row_at P z i ≡ row_at Q z i
   same_row z i l =
       ap (λ (n : ℕ). ∑ n (λ j. P.A i j *ℤ z j)) h.same_ropes
-      ∙ ∑-cong Q.ropes (λ j. P.A i j *ℤ z j) (λ j. Q.A i j *ℤ z j) (λ j m. ap (λ (w : ℤ). w *ℤ z j) (h.same_A i j l m))
+      ∙ ∑-cong Q.ropes (λ j. P.A i j *ℤ z j) (λ j. Q.A i j *ℤ z j) (λ j m. ap (λ (w : ℤ). w *ℤ z j) (h.same_a i j l m))
 
   same_quad : (z : Vector) → quad P.ropes P.G z ≡ quad Q.ropes Q.G z
   same_quad z =

@@ -32,7 +32,7 @@ pub record Agrees (P Q : Problem) : Type 0 where
   pub same_rows : P.rows ≡ Q.rows
   pub same_g : (i j : ℕ) → i < Q.ropes → j < Q.ropes → P.G i j ≡ Q.G i j
   pub same_c : (j : ℕ) → j < Q.ropes → P.c j ≡ Q.c j
-  pub same_A : (i j : ℕ) → i < Q.rows → j < Q.ropes → P.A i j ≡ Q.A i j
+  pub same_a : (i j : ℕ) → i < Q.rows → j < Q.ropes → P.A i j ≡ Q.A i j
   pub same_lo : (i : ℕ) → i < Q.rows → P.lo i ≡ Q.lo i
   pub same_hi : (i : ℕ) → i < Q.rows → P.hi i ≡ Q.hi i
   pub same_l : (j : ℕ) → j < Q.ropes → P.l j ≡ Q.l j
