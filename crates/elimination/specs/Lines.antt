@@ -1,6 +1,7 @@
 -- Gaussian elimination over the rounded operations of binary64, on lists of lines.
 -- A line of a system of n unknowns has n coefficients, and then its right side.
-use Rattle.std.specs.Prelude.{◌≡◌, ℕ, zero, suc, ◌+◌, ◌-◌, ◌<◌, Bool, true, false, cond, ◌&&◌, List, [], ◌∷◌, ◌++◌, map, length, take, drop, replicate, pos, negsuc, Some, None, Option, nat_le, slice_index_or, slice_set, Float}
+use Rattle.std.specs.Prelude.{◌≡◌, ℕ, zero, suc, ◌+◌, ◌-◌, ◌<◌, Bool, true, false, cond, ◌&&◌, pos, negsuc, Some, None, Option, nat_le, Float}
+use Rattle.std.specs.Prelude.{List, [], ◌∷◌, ◌++◌, map, length, take, drop, replicate, slice_index_or, slice_set}
 use Rattle.std.specs.Float.Ieee.{sub, mul, div, lt}
 use Rattle.std.specs.Float.{float_with_sign, nan, fin, binary64}
 

@@ -1,6 +1,6 @@
 -- Lists that are filled number by number.
-use Rattle.std.proofs.Common.{◌≡◌, ℕ, ◌+◌, ◌<◌, ◌≤◌, Bool, true, ◌≢◌, List, length, set, ℤ, pos, Some, None, Option, unwrap_or, ap, ◌∙◌, ⊎_elim, arith}
-use Rattle.std.proofs.lemmas.List.{get_or-set_same, get_or-set_other}
+use Rattle.std.proofs.Common.{◌≡◌, ℕ, ◌+◌, ◌<◌, ◌≤◌, Bool, true, ◌≢◌, List, [], ◌∷◌, ◌++◌, length, set, ℤ, pos, Some, None, Option, unwrap_or, sym, ap, ◌∙◌, ⊎_elim, arith}
+use Rattle.std.proofs.lemmas.List.{length_push, get_or_push, get_or_append_left, get_or-set_same, get_or-set_other}
 use Rattle.std.proofs.lemmas.Bool.{cases_lt, cond-true}
 use Rattle.duality.specs.Lists.{places}
 use Rattle.duality.specs.Sums.{Vector}
@@ -27,3 +27,21 @@ below_all i n xs v long l h = (long, λ k m. h k (omega arith))
 -- an answer where the test holds
 pub given_value : (b : Bool) (v : ℤ) (o : Option ℤ) → o ≡ answer b v → b ≡ true → unwrap_or o (pos 0) ≡ v
 given_value b v o e t = ap (λ (p : Option ℤ). unwrap_or p (pos 0)) (e ∙ cond-true b (Some v) None t)
+
+-- the same for a list that grows by a push
+pub lists_none : (xs : List ℤ) (v : Vector) → xs ≡ [] → Lists 0 xs v
+lists_none xs v e = (ap length e, λ k l. absurd (omega arith))
+
+pub lists_more : (n : ℕ) (xs ys : List ℤ) (v : Vector) (x : ℤ) → Lists n xs v → ys ≡ xs ++ x ∷ [] → x ≡ v n → Lists (n + 1) ys v
+lists_more n xs ys v x h e ex = (
+  ap length e ∙ length_push xs x ∙ ap (λ (k : ℕ). k + 1) h.0,
+  λ k l.
+      ap (λ (zs : List ℤ). places zs k) e
+      ∙ ⊎_elim
+      (λ (lt : k < n). get_or_append_left xs (x ∷ []) (pos 0) k (omega (arith, h.0)) ∙ h.1 k lt)
+      (λ (ge : n ≤ k). let q : k ≡ n = omega arith in get_or_push xs x (pos 0) k (h.0 ∙ sym q) ∙ ex ∙ ap v (sym q))
+      (cases_lt k n),
+)
+
+pub lists_all : (i n : ℕ) (xs : List ℤ) (v : Vector) → i ≡ n → Lists i xs v → Lists n xs v
+lists_all i n xs v e h = rw e at h
