@@ -1,13 +1,12 @@
 -- The first of several answers: a loop's step, its exits, and what it says where there is none.
-use Rattle.std.proofs.Common.{◌≡◌, ℕ, zero, suc, ◌+◌, ◌<◌, ◌≤◌, Bool, true, false, cond, Some, None, Option, refl, ap, ⊎_elim, add-one, arith}
+use Rattle.std.proofs.Common.{◌≡◌, ℕ, zero, suc, ◌<◌, ◌≤◌, Bool, true, false, cond, Some, None, Option, refl, ap, ◌∙◌, ⊎_elim, arith, Ok, Err, sym, List, length, slice_index_or}
 use Rattle.std.proofs.lemmas.Bool.{cases_lt}
-use Rattle.std.specs.Option.{option_or, option_map}
+use Rattle.std.specs.List.{AllWithin, HoldsAt}
+use Rattle.std.specs.Option.{MatchOption, option_or, option_map}
 use Rattle.duality.specs.Tests.{first_not}
 use Rattle.duality.proofs.Tests.{first_at}
-use Rattle.opening.specs.Firsts.{first_of}
-
-pub of_more : {X : Type 0} (f : ℕ → Option X) (i : ℕ) → first_of f i ≡ None → f i ≡ None → first_of f (i + 1) ≡ None
-of_more f i e t = rw (add-one, first_of, e, t)
+use Rattle.opening.specs.Firsts.{first_of, unless}
+use Rattle.opening.specs.declared.refusal.Refusal.{Refusal}
 
 pub of_at : {X : Type 0} (f : ℕ → Option X) (i n : ℕ) (x : X) → first_of f i ≡ None → f i ≡ Some x → i < n → first_of f n ≡ Some x
 of_at f i zero x e g h = absurd (omega arith)
@@ -70,3 +69,24 @@ six_none s t l m o p e =
 pub six_in : {X : Type 0} (s t l m o p : Option X) → s ≡ None → t ≡ None → l ≡ None → m ≡ None → o ≡ None → p ≡ None →
     option_or (option_or (option_or (option_or (option_or s t) l) m) o) p ≡ None
 six_in s t l m o p es et el em eo ep = rw (es, et, el, em, eo, ep)
+
+-- a loop along rows and columns that refuses at the first place that fails
+pub refused_at : {X : Type 0} (x : X) (F : ℕ → ℕ → Refusal) (f : ℕ → Option Refusal) (p : ℕ → ℕ → Bool) (m n : ℕ) → ((i : ℕ) → f i ≡ option_map (F i) (first_not (p i) n))
+    → (i j : ℕ) → first_of f i ≡ None → i < m → first_not (p i) j ≡ None → p i j ≡ false → j < n → Err (F i j) ≡ unless (first_of f m) x
+refused_at x F f p m n line i j rows h row t w =
+    let here : f i ≡ Some (F i j) = line i ∙ stops_at (F i) (p i) j n row t w in
+    let first : first_of f m ≡ Some (F i j) = of_at f i m (F i j) rows here h in
+    cc
+
+-- what `position` finds is the first place that fails a test, where its closure answers that the test fails
+pub first_position : {B : Type 0} (p : ℕ → Bool) (xs : List B) (d : B) (Yes No : B → Type 0)
+    → ((k : ℕ) → k < length xs → Yes (slice_index_or xs k d) → p k ≡ false) → ((k : ℕ) → k < length xs → No (slice_index_or xs k d) → p k ≡ true) → (o : Option ℕ)
+    → MatchOption o (AllWithin No xs 0 (length xs)) (λ i. (i < length xs) × HoldsAt Yes xs i × AllWithin No xs 0 i) → o ≡ first_not p (length xs)
+first_position p xs d Yes No fails passes None none = sym (first_all p (length xs) (λ k l. passes k l (none k d (omega arith) l)))
+first_position p xs d Yes No fails passes (Some i) found =
+    sym (first_at p i (length xs) (first_all p i (λ k l. passes k (omega arith) (found.2 k d (omega arith) l))) (fails i found.0 (found.1 d)) found.0)
+
+-- where a check passed, there is no reason to refuse
+pub none_of : {X : Type 0} (o : Option Refusal) (x y : X) → Ok y ≡ unless o x → o ≡ None
+none_of None x y e = refl
+none_of (Some f) x y e = let z : ◌≡◌ {A = ℕ} 0 1 = cc in absurd (omega arith)

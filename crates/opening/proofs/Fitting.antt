@@ -1,5 +1,5 @@
 -- Each check finds no fault exactly where its part fits.
-use Rattle.std.proofs.Common.{◌≡◌, ℕ, ◌*◌, ◌≤◌, true, ◌&&◌, ◌||◌, eqb, ltb, leb, List, length, ℤ, pos, nat_abs, ◌≤ℤ◌, is_some, Some, None, Option, unwrap_or, sym, refl, ap, ◌∙◌, inl, inr, ⊎_elim, arith}
+use Rattle.std.proofs.Common.{◌≡◌, ℕ, ◌*◌, ◌≤◌, true, ◌&&◌, ◌||◌, eqb, ltb, leb, List, length, ℤ, pos, nat_abs, ◌≤ℤ◌, is_some, Ok, Err, Some, None, Option, unwrap_or, sym, refl, ap, ◌∙◌, inl, inr, ⊎_elim, arith}
 use lib.Signed.{le_z}
 use Rattle.std.proofs.lemmas.Bool.{and_parts, and_from, or_cases, or_left, or_right, cond-true, ltb-true, lt-ltb, leb-true, le-leb, eqb-true, eq-eqb, false≢true}
 use Rattle.std.specs.Option.{option_map, option_or}
@@ -11,6 +11,7 @@ use Rattle.duality.proofs.Ring.{lin}
 use Rattle.duality.proofs.Slip.{slip_sound}
 use Rattle.duality.proofs.Tests.{all_from, first_none, le_z_le, le_le_z}
 use Rattle.table.specs.Grid.{Grid, height_of, width_of, place_of, matrix_of}
+use Rattle.opening.specs.Firsts.{unless}
 use Rattle.opening.specs.Fits.{Sized, Filled, Long, Near, Limited, Ordered, Fits, TellsFit}
 use Rattle.opening.specs.Opening.{
   Numbers,
@@ -40,7 +41,7 @@ use Rattle.opening.specs.declared.refusal.List.{List as Name}
 use Rattle.opening.specs.declared.refusal.List.TheVariants as name
 use Rattle.opening.specs.declared.refusal.Refusal.{Refusal}
 use Rattle.opening.specs.declared.refusal.Refusal.TheVariants.{Place, Asymmetric, Length, Limit, Slip}
-use Rattle.opening.proofs.Firsts.{or_none, or_both, of_none, of_all, mapped_none, cond_none, first_all, six_none, six_in}
+use Rattle.opening.proofs.Firsts.{none_of, or_none, or_both, of_none, of_all, mapped_none, cond_none, first_all, six_none, six_in}
 
 -- sizes
 
@@ -184,12 +185,16 @@ ordered_in list lows highs h = ap (option_map (Limit list)) (first_all (λ k. le
 
 -- the slip
 
-pub slip_fits : (g a : Grid) (x : Numbers) (n m : ℕ) → n ≡ height_of g → sizes_fault g a ≡ None → lengths_fault n m x ≡ None → limits_fault x ≡ None → SlipNumbers n x.slip
-slip_fits g a x n m q s e d =
+-- where the checks before it passed
+pub slip_fits : {X : Type 0} (g a : Grid) (x : Numbers) (n m : ℕ) (y : X) → n ≡ height_of g → Ok y ≡ unless (sizes_fault g a) y
+    → Ok y ≡ unless (option_or (lengths_fault n m x) (option_or (limits_fault x) (orders_fault x))) y → SlipNumbers n x.slip
+slip_fits g a x n m y q s e =
+    let l = or_none (lengths_fault n m x) (option_or (limits_fault x) (orders_fault x)) (none_of _ y y e) in
+    let limited = limited_out x (or_none (limits_fault x) (orders_fault x) l.1).0 in
     record {
-      few = rw q (sized_out g a s).few_ropes;
-      long = (long_out n m x e).slip;
-      near = all_from (λ k. within 131072 (places x.slip k)) (length x.slip) (λ k l. le-leb _ _ ((limited_out x d).slip k l));
+      few = rw q (sized_out g a (none_of (sizes_fault g a) y y s)).few_ropes;
+      long = (long_out n m x l.0).slip;
+      near = all_from (λ k. within 131072 (places x.slip k)) (length x.slip) (λ k l. le-leb _ _ (limited.slip k l));
     }
 
 slip_out : (n : ℕ) (G : Matrix) (slip : List ℤ) → slip_fault n G slip ≡ None → SlipHolds n G (by_rows n slip)
@@ -255,6 +260,19 @@ module _ (g a : Grid) (x : Numbers) where
       (or_both (order_fault name.LowerBounds x.l x.u) (order_fault name.LowerLimits x.lo x.hi) (ordered_in name.LowerBounds x.l x.u h.bounds_open)
       (ordered_in name.LowerLimits x.lo x.hi h.limits_open))
       (slip_in (height_of g) (matrix_of g) x.slip h.slip_holds)))))
+
+-- a list is refused where the checks before it passed
+pub list_refused : {X : Type 0} (g a : Grid) (x : Numbers) (n m : ℕ) (y : X) (e : Refusal) → n ≡ height_of g → m ≡ height_of a → Ok y ≡ unless (sizes_fault g a) y
+    → Ok y ≡ unless (tables_fault g a) y → Err e ≡ unless (option_or (lengths_fault n m x) (option_or (limits_fault x) (orders_fault x))) y → Err e ≡ unless (open_fault g a x) y
+list_refused g a x n m y e en em s t h =
+    rw (none_of (sizes_fault g a) y y s, none_of (tables_fault g a) y y t)
+    (listed (lengths_fault (height_of g) (height_of a) x) (limits_fault x) (orders_fault x) (slip_fault (height_of g) (matrix_of g) x.slip) (rw (en, em) at h))
+  where
+    listed : (l m o p : Option Refusal) → Err e ≡ unless (option_or l (option_or m o)) y → Err e ≡ unless (option_or l (option_or m (option_or o p))) y
+    listed (Some f) m o p h = h
+    listed None (Some f) o p h = h
+    listed None None (Some f) p h = h
+    listed None None None p h = let z : ◌≡◌ {A = ℕ} 0 1 = cc in absurd (omega arith)
 
 pub tells_fit : (g a : Grid) (x : Numbers) (r : Option Refusal) → r ≡ open_fault g a x → TellsFit g a x r
 tells_fit g a x r e =

@@ -3,4 +3,3 @@ pub mod Firsts
 pub mod Fitting
 pub mod Naming
 pub mod Slips
-pub mod Telling

@@ -1,5 +1,5 @@
 -- What is named is at fault.
-use Rattle.std.proofs.Common.{◌≡◌, ℕ, zero, suc, ◌<◌, Bool, true, false, cond, eqb, ◌⊎◌, length, ℤ, pos, nat_abs, ◌<ℤ◌, IfSome, Some, None, Option, unwrap_or, sym, refl, inl, inr, ⊎_elim, arith}
+use Rattle.std.proofs.Common.{◌≡◌, ℕ, zero, suc, ◌<◌, Bool, true, false, cond, eqb, ◌⊎◌, length, ℤ, pos, nat_abs, ◌<ℤ◌, IfSome, Some, None, Option, unwrap_or, sym, refl, ap, ◌∙◌, Result, inl, inr, ⊎_elim, arith}
 use lib.Signed.{le_z}
 use Rattle.std.proofs.lemmas.Int.{ints}
 use Rattle.std.proofs.lemmas.Bool.{both_ways, cases_order, leb-false, eqb-false}
@@ -10,14 +10,16 @@ use Rattle.duality.specs.Tests.{first_not, or_here, within}
 use Rattle.duality.proofs.Tests.{first_none}
 use Rattle.table.specs.Grid.{Grid, height_of, width_of, place_of, matrix_of}
 use Rattle.opening.specs.Faults.{list_of, length_for, limit_for, Unfilled, AtFault, Truly}
-use Rattle.opening.specs.Firsts.{first_of}
+use Rattle.std.specs.Result.{result_err}
+use Rattle.opening.specs.Firsts.{first_of, unless}
+use Rattle.opening.specs.Fits.{TellsFit}
 use Rattle.opening.specs.Opening.{Numbers, is_square, is_lined, size_fault, sizes_fault, is_number, line_fault, places_fault, same, mirror_fault, symmetry_fault, tables_fault, length_fault, lengths_fault, limit_fault, limits_fault, order_fault, orders_fault, dominates, slip_fault, open_fault}
 use Rattle.opening.specs.declared.refusal.List.{List as Name}
 use Rattle.opening.specs.declared.refusal.List.TheVariants as name
 use Rattle.opening.specs.declared.refusal.Refusal.{Refusal}
 use Rattle.opening.specs.declared.refusal.Refusal.TheVariants.{Sizes, Place, Asymmetric, Length, Limit, Slip}
 use Rattle.opening.proofs.Firsts.{of_none, mapped_none, or_none, cond_none}
-use Rattle.opening.proofs.Fitting.{sized_out, sized_in, same_out, same_in}
+use Rattle.opening.proofs.Fitting.{tells_fit, sized_out, sized_in, same_out, same_in}
 
 -- Q holds of what is given
 abbrev Given : {X : Type 0} → (X → Type 0) → Option X → Type 0
@@ -143,3 +145,14 @@ module _ (g a : Grid) (x : Numbers) where
       given_or Q (lengths_fault (height_of g) (height_of a) x) _ (of_six (λ list. length_fault list (length_for (height_of g) (height_of a) list) (list_of x list)) of_length) (λ _.
       given_or Q (limits_fault x) _ (of_six (λ list. limit_fault list (limit_for list) (list_of x list)) of_limit) (λ _.
       given_or Q (orders_fault x) _ of_orders (λ _. of_slip))))))
+
+-- what a check that answers the first fault owes besides
+error_of : {X : Type 0} (o : Option Refusal) (x : X) → result_err (unless o x) ≡ o
+error_of None x = refl
+error_of (Some e) x = refl
+
+pub lawful : (g a : Grid) (x : Numbers) (r : Result (Unit {0}) Refusal) → r ≡ unless (open_fault g a x) tt →
+    record { value : r ≡ unless (open_fault g a x) tt; law : TellsFit g a x (result_err r); fault : Truly g a x (result_err r) }
+lawful g a x r e =
+    let f : result_err r ≡ open_fault g a x = ap result_err e ∙ error_of (open_fault g a x) tt in
+    record { value = e; law = tells_fit g a x (result_err r) f; fault = truly g a x (result_err r) f }

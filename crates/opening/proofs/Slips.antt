@@ -1,8 +1,8 @@
 -- The sums of the slip's test: how large they are, and a loop's step.
-use Rattle.std.proofs.Common.{◌≡◌, ℕ, suc, ◌+◌, ◌*◌, ◌^◌, ◌<◌, ◌≤◌, eqb, List, ℤ, pos, ◌+ℤ◌, ◌-ℤ◌, ◌*ℤ◌, neg_ℤ, nat_abs, sym, ap, ◌∙◌, le_refl, suc-mul, mul-le-mul, arith, w64, SFits}
+use Rattle.std.proofs.Common.{◌≡◌, ℕ, ◌+◌, ◌*◌, ◌^◌, ◌<◌, ◌≤◌, eqb, List, ℤ, pos, ◌+ℤ◌, ◌-ℤ◌, ◌*ℤ◌, neg_ℤ, nat_abs, sym, ap, ◌∙◌, le_refl, mul-le-mul, arith, w64, SFits}
 use Rattle.std.proofs.lemmas.Int.{to_z-of_z}
 use Rattle.std.proofs.lemmas.Bool.{cond_both}
-use Rattle.duality.specs.Convex.{remainder, beside, around}
+use Rattle.duality.specs.Convex.{remainder, beside}
 use Rattle.duality.specs.Lists.{by_rows}
 use Rattle.duality.specs.Sums.{Matrix, ∑, absℤ}
 use Rattle.duality.proofs.Sizes.{nat_abs_neg, small_sub, small_mul, small-∑}
@@ -12,14 +12,6 @@ use Rattle.table.specs.Grid.{Grid, matrix_of}
 use Rattle.table.proofs.Bounds.{matrix_near}
 use Rattle.opening.specs.Opening.{gram_of, SlipNumbers}
 use Rattle.opening.proofs.Bits.{back, fits, back_is, back_of}
-
-pub inside : (n k i : ℕ) → k < n → i < n → k * n + i < n * n
-inside n k i h l =
-    let p : suc k * n ≤ n * n = mul-le-mul {n₁ = suc k} {m₁ = n} {n₂ = n} {m₂ = n} (omega arith) (le_refl n) in
-    omega (arith, suc-mul k n)
-
-pub few_squared : (n : ℕ) → n ≤ 16 → n * n ≤ 256
-few_squared n h = mul-le-mul {n₁ = n} {m₁ = n} {n₂ = 16} {m₂ = 16} h h
 
 module _ (n : ℕ) (slip : List ℤ) (h : SlipNumbers n slip) where
   abbrev L : Matrix
@@ -48,20 +40,22 @@ module _ (n : ℕ) (slip : List ℤ) (h : SlipNumbers n slip) where
   pub gram_small : (i j : ℕ) → nat_abs (gram_of n L i j) ≤ 2 ^ 38
   gram_small i j = part_small i j n (le_refl n)
 
-  pub sum_small : (i j k : ℕ) (s : ℤ) → k < n → s ≡ ∑ k (term i j) → nat_abs s ≤ 2 ^ 61
-  sum_small i j k s l e = omega (arith, ap nat_abs e, part_small i j k (omega arith))
+  -- one product more, as the code sums them up
+  module _ (i j k : ℕ) (l : k < n) (s : ℤ) (e : s ≡ ∑ k (term i j)) where
+    pub product_fits : SFits w64 (back (L k i) *ℤ back (L k j))
+    product_fits = rw (place_back k i, place_back k j) (fits (2 ^ 34) (term i j k) (term_small i j k) (omega arith))
 
-  pub product_small : (i j k : ℕ) → nat_abs (back (L k i) *ℤ back (L k j)) ≤ 2 ^ 61
-  product_small i j k = rw (place_back k i, place_back k j) (omega (arith, term_small i j k))
+    product_back : back (back (L k i) *ℤ back (L k j)) ≡ term i j k
+    product_back = rw (place_back k i, place_back k j) (back_is (2 ^ 34) (term i j k) (term_small i j k) (omega arith))
 
-  pub gram_more : (i j k : ℕ) (s r : ℤ) → SFits w64 r → s ≡ ∑ k (term i j) → r ≡ s +ℤ back (L k i) *ℤ back (L k j) → back r ≡ ∑ (k + 1) (term i j)
-  gram_more i j k s r f es er =
-      to_z-of_z w64 r f
-      ∙ er
-      ∙ ap (λ (v : ℤ). v +ℤ back (L k i) *ℤ back (L k j)) es
-      ∙ ap (λ (v : ℤ). ∑ k (term i j) +ℤ v *ℤ back (L k j)) (place_back k i)
-      ∙ ap (λ (v : ℤ). ∑ k (term i j) +ℤ L k i *ℤ v) (place_back k j)
-      ∙ sym (∑-more k (term i j))
+    gram_whole : s +ℤ back (back (L k i) *ℤ back (L k j)) ≡ ∑ (k + 1) (term i j)
+    gram_whole = rw (product_back, e) (sym (∑-more k (term i j)))
+
+    pub gram_fits : SFits w64 (s +ℤ back (back (L k i) *ℤ back (L k j)))
+    gram_fits = rw gram_whole (fits (2 ^ 38) (∑ (k + 1) (term i j)) (part_small i j (k + 1) (omega arith)) (omega arith))
+
+    pub gram_more : back (s +ℤ back (back (L k i) *ℤ back (L k j))) ≡ ∑ (k + 1) (term i j)
+    gram_more = to_z-of_z w64 _ gram_fits ∙ gram_whole
 
   module _ (g : Grid) where
     abbrev R : Matrix
@@ -115,10 +109,6 @@ module _ (n : ℕ) (slip : List ℤ) (h : SlipNumbers n slip) where
           small-∑ k (2 ^ 41) (beside R i) (λ j _. beside_small i j),
           mul-le-mul {n₁ = k} {m₁ = 2 ^ 41} {n₂ = 16} {m₂ = 2 ^ 41} (omega (arith, h.few)) (le_refl (2 ^ 41)),
         )
-
-    pub around_small : (i : ℕ) → nat_abs (around n R i) ≤ 2 ^ 45
-    unfolding around
-    around_small i = around_part i n (le_refl n)
 
     module _ (i k : ℕ) (l : k < n) (s b : ℤ) (es : s ≡ ∑ k (beside R i)) (eb : b ≡ beside R i k) where
       whole : s +ℤ back b ≡ ∑ (k + 1) (beside R i)

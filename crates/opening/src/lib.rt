@@ -1,4 +1,4 @@
-//! What a plan refuses, and the first fault of what a plan is to be opened from.
+//! What a plan refuses, and the check of what a plan is to be opened from.
 #![tactic(auto)]
 
 mod listed;
@@ -10,7 +10,7 @@ mod tables;
 
 pub use block::{Fault, Layer, Notice};
 pub use lists::Lists;
-pub use opening::opening_fault;
+pub use opening::check_opening;
 pub use refusal::{List, Refusal};
 
 #[cfg(test)]

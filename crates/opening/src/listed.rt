@@ -1,85 +1,96 @@
-//! Faults of the lists: lengths, limits, order.
-ghost use Rattle.std.specs.Prelude.{◌≡◌, ◌≤◌, length};
+//! Checks of the lists: lengths, limits, order.
+ghost use Rattle.std.specs.Prelude.{◌≡◌, ◌≤◌, length, int_le};
+ghost use Rattle.std.specs.Option.{option_or};
+ghost use Rattle.duality.specs.Lists.{places};
+ghost use Rattle.duality.specs.Tests.{first_not};
+ghost use Rattle.opening.specs.Firsts.{unless};
 ghost use Rattle.opening.specs.Opening.{numbers_of, length_fault, lengths_fault, limit_fault, limits_fault, order_fault, orders_fault};
 
 use crate::lists::Lists;
 use crate::refusal::{List, Refusal};
-
-const COST_LIMIT: u64 = 268_435_456;
-
-const BOUND_LIMIT: u64 = 32_768;
-
-const ROW_LIMIT: u64 = 536_870_912;
+use terms::{PRICE_LIMIT, PULL_LIMIT, ROW_LIMIT, first_beyond};
 
 const SLIP_LIMIT: u64 = 131_072;
 
-fn length_fault(list: List, n: usize, xs: &[i64]) -> Option<Refusal>
-    ensures { result ≡ length_fault list n xs.now }
+fn check_length(list: List, n: usize, xs: &[i64]) -> Result<(), Refusal>
+    ensures { result ≡ unless (length_fault list n xs.now) tt }
 {
     if xs.len() == n {
-        None
+        Ok(())
     } else {
-        Some(Refusal::Length { list })
+        Err(Refusal::Length { list })
     }
 }
 
-/// The first list of a wrong length, where there are n ropes and m rows.
-pub(crate) fn lengths_fault(n: usize, m: usize, lists: &Lists) -> Option<Refusal>
-    requires { n ≤ 64 }
-    ensures { result ≡ lengths_fault n m (numbers_of lists.now) }
+fn check_limit(list: List, limit: u64, xs: &[i64]) -> Result<(), Refusal>
+    ensures { result ≡ unless (limit_fault list limit xs.now) tt }
 {
-    length_fault(List::Costs, n, lists.c)
-        .or(length_fault(List::LowerBounds, n, lists.l))
-        .or(length_fault(List::UpperBounds, n, lists.u))
-        .or(length_fault(List::LowerLimits, m, lists.lo))
-        .or(length_fault(List::UpperLimits, m, lists.hi))
-        .or(length_fault(List::Slip, n * n, lists.slip))
-}
-
-fn limit_fault(list: List, limit: u64, xs: &[i64]) -> Option<Refusal>
-    ensures { result ≡ limit_fault list limit xs.now }
-{
-    for i in 0..xs.len() {
-        if xs[i].unsigned_abs() > limit {
-            return Some(Refusal::Limit { list, index: i });
-        }
+    match first_beyond(limit, xs) {
+        Some(index) => Err(Refusal::Limit { list, index }),
+        None => Ok(()),
     }
-    None
 }
 
-/// The first number beyond its limit.
-pub(crate) fn limits_fault(lists: &Lists) -> Option<Refusal>
-    ensures { result ≡ limits_fault (numbers_of lists.now) }
-{
-    limit_fault(List::Costs, COST_LIMIT, lists.c)
-        .or(limit_fault(List::LowerBounds, BOUND_LIMIT, lists.l))
-        .or(limit_fault(List::UpperBounds, BOUND_LIMIT, lists.u))
-        .or(limit_fault(List::LowerLimits, ROW_LIMIT, lists.lo))
-        .or(limit_fault(List::UpperLimits, ROW_LIMIT, lists.hi))
-        .or(limit_fault(List::Slip, SLIP_LIMIT, lists.slip))
-}
-
-fn order_fault(lower: List, lows: &[i64], highs: &[i64]) -> Option<Refusal>
+/// The first place where a lower number lies above the upper one.
+fn first_above(lows: &[i64], highs: &[i64]) -> Option<usize>
     requires { length lows.now ≡ length highs.now }
-    ensures { result ≡ order_fault lower lows.now highs.now }
+    ensures { result ≡ first_not (λ k. int_le (places lows.now k) (places highs.now k)) (length lows.now) }
 {
-    for i in 0..lows.len() {
-        if lows[i] > highs[i] {
-            return Some(Refusal::Limit {
-                list: lower,
-                index: i,
-            });
-        }
-    }
-    None
+    lows.iter().zip(highs).position(|(low, high)| low > high)
 }
 
-/// The first lower number above the upper one at its place.
-pub(crate) fn orders_fault(lists: &Lists) -> Option<Refusal>
-    requires bounds { length (numbers_of lists.now).l ≡ length (numbers_of lists.now).u }
-    requires limits { length (numbers_of lists.now).lo ≡ length (numbers_of lists.now).hi }
-    ensures { result ≡ orders_fault (numbers_of lists.now) }
+fn check_order(lower: List, lows: &[i64], highs: &[i64]) -> Result<(), Refusal>
+    requires { length lows.now ≡ length highs.now }
+    ensures { result ≡ unless (order_fault lower lows.now highs.now) tt }
 {
-    let bounds = order_fault(List::LowerBounds, lists.l, lists.u);
-    bounds.or(order_fault(List::LowerLimits, lists.lo, lists.hi))
+    match first_above(lows, highs) {
+        Some(index) => Err(Refusal::Limit { list: lower, index }),
+        None => Ok(()),
+    }
+}
+
+impl Lists<'_> {
+    /// That each list has the length for this many ropes and rows.
+    fn check_lengths(&self, ropes: usize, rows: usize) -> Result<(), Refusal>
+        requires { ropes ≤ 64 }
+        ensures { result ≡ unless (lengths_fault ropes rows (numbers_of self.now)) tt }
+    {
+        check_length(List::Costs, ropes, self.c)?;
+        check_length(List::LowerBounds, ropes, self.l)?;
+        check_length(List::UpperBounds, ropes, self.u)?;
+        check_length(List::LowerLimits, rows, self.lo)?;
+        check_length(List::UpperLimits, rows, self.hi)?;
+        check_length(List::Slip, ropes * ropes, self.slip)
+    }
+
+    /// That no number lies beyond its limit.
+    fn check_limits(&self) -> Result<(), Refusal>
+        ensures { result ≡ unless (limits_fault (numbers_of self.now)) tt }
+    {
+        check_limit(List::Costs, PRICE_LIMIT, self.c)?;
+        check_limit(List::LowerBounds, PULL_LIMIT, self.l)?;
+        check_limit(List::UpperBounds, PULL_LIMIT, self.u)?;
+        check_limit(List::LowerLimits, ROW_LIMIT, self.lo)?;
+        check_limit(List::UpperLimits, ROW_LIMIT, self.hi)?;
+        check_limit(List::Slip, SLIP_LIMIT, self.slip)
+    }
+
+    /// That no lower number lies above the upper one at its place.
+    fn check_orders(&self) -> Result<(), Refusal>
+        requires bounds { length (numbers_of self.now).l ≡ length (numbers_of self.now).u }
+        requires limits { length (numbers_of self.now).lo ≡ length (numbers_of self.now).hi }
+        ensures { result ≡ unless (orders_fault (numbers_of self.now)) tt }
+    {
+        check_order(List::LowerBounds, self.l, self.u)?;
+        check_order(List::LowerLimits, self.lo, self.hi)
+    }
+    /// Lengths, limits, order.
+    pub(crate) fn check(&self, ropes: usize, rows: usize) -> Result<(), Refusal>
+        requires { ropes ≤ 64 }
+        ensures { result ≡ unless (option_or (lengths_fault ropes rows (numbers_of self.now)) (option_or (limits_fault (numbers_of self.now)) (orders_fault (numbers_of self.now)))) tt }
+    {
+        self.check_lengths(ropes, rows)?;
+        self.check_limits()?;
+        self.check_orders()
+    }
 }

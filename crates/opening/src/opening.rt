@@ -1,46 +1,28 @@
-//! The first fault of what a plan is to be opened from.
+//! The check of what a plan is to be opened from.
 ghost use Rattle.std.specs.Prelude.{◌≡◌};
+ghost use Rattle.std.specs.Result.{result_err};
 ghost use Rattle.opening.specs.Faults.{Truly};
+ghost use Rattle.opening.specs.Firsts.{unless};
 ghost use Rattle.opening.specs.Fits.{TellsFit};
 ghost use Rattle.opening.specs.Opening.{numbers_of, open_fault};
 
-use crate::listed::{lengths_fault, limits_fault, orders_fault};
 use crate::lists::Lists;
 use crate::refusal::Refusal;
-use crate::slip::slip_fault;
-use crate::tables::{sizes_fault, tables_fault};
+use crate::slip::Slip;
+use crate::tables::{check_sizes, check_tables};
 use table::Table;
 
-/// The checks in turn, each where those before it found no fault.
-fn first_fault<G: Table, A: Table>(g: &G, a: &A, lists: &Lists) -> Option<Refusal>
-    ensures { result ≡ open_fault (G.Table.meant g.now) (A.Table.meant a.now) (numbers_of lists.now) }
-{
-    if let Some(fault) = sizes_fault(g, a) {
-        return Some(fault);
-    }
-    if let Some(fault) = tables_fault(g, a) {
-        return Some(fault);
-    }
-    let n = g.height();
-    if let Some(fault) = lengths_fault(n, a.height(), lists) {
-        return Some(fault);
-    }
-    if let Some(fault) = limits_fault(lists) {
-        return Some(fault);
-    }
-    if let Some(fault) = orders_fault(lists) {
-        return Some(fault);
-    }
-    slip_fault(g, n, lists.slip)
-}
-
-/// The first fault: sizes of G and then of A, places of G and then of A, symmetry of G, lengths, limits, order, slip.
+/// The checks in turn: sizes of G and then of A, places of G and then of A, symmetry of G, lengths, limits, order, slip.
 ///
-/// There is none exactly where everything fits; the cost is convex then. What is named is at fault.
-pub fn opening_fault<G: Table, A: Table>(g: &G, a: &A, lists: &Lists) -> Option<Refusal>
-    ensures value { result ≡ open_fault (G.Table.meant g.now) (A.Table.meant a.now) (numbers_of lists.now) }
-    ensures law { TellsFit (G.Table.meant g.now) (A.Table.meant a.now) (numbers_of lists.now) result }
-    ensures fault { Truly (G.Table.meant g.now) (A.Table.meant a.now) (numbers_of lists.now) result }
+/// All pass exactly where everything fits; the cost is convex then. Otherwise the first fault is told, and what it names is at fault.
+pub fn check_opening<G: Table, A: Table>(g: &G, a: &A, lists: &Lists) -> Result<(), Refusal>
+    ensures value { result ≡ unless (open_fault (G.Table.meant g.now) (A.Table.meant a.now) (numbers_of lists.now)) tt }
+    ensures law { TellsFit (G.Table.meant g.now) (A.Table.meant a.now) (numbers_of lists.now) (result_err result) }
+    ensures fault { Truly (G.Table.meant g.now) (A.Table.meant a.now) (numbers_of lists.now) (result_err result) }
 {
-    first_fault(g, a, lists)
+    check_sizes(g, a)?;
+    check_tables(g, a)?;
+    let ropes = g.height();
+    lists.check(ropes, a.height())?;
+    Slip::new(g, ropes, lists.slip).check()
 }

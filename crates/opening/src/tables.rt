@@ -1,31 +1,17 @@
-//! Faults of the tables: sizes, places, symmetry.
+//! Checks of the tables: sizes, places, symmetry.
 ghost use Rattle.std.specs.Prelude.{◌≡◌};
-ghost use Rattle.table.specs.Grid.{matrix_of};
-ghost use Rattle.opening.specs.Opening.{is_square, is_lined, size_fault, sizes_fault, is_number, line_fault, places_fault, same, mirror_fault, symmetry_fault, tables_fault};
+ghost use Rattle.table.specs.Grid.{height_of, matrix_of, width_of};
+ghost use Rattle.opening.specs.declared.refusal.Refusal.TheVariants.{Sizes};
+ghost use Rattle.opening.specs.Firsts.{unless};
+ghost use Rattle.opening.specs.Opening.{is_square, is_lined, sizes_fault, places_fault, symmetry_fault, tables_fault};
 
 use crate::refusal::Refusal;
 use table::Table;
-
-const MOST_ROPES: usize = 16;
-
-const MOST_ROWS: usize = 32;
+use terms::{MOST_ROPES, MOST_ROWS};
 
 const CURVATURE_LIMIT: u64 = 4_096;
 
 const ROW_NUMBER_LIMIT: u64 = 1_024;
-
-fn size_fault<T: Table>(fits: bool, t: &T) -> Option<Refusal>
-    ensures { result ≡ size_fault fits (T.Table.meant t.now) }
-{
-    if fits {
-        None
-    } else {
-        Some(Refusal::Sizes {
-            height: t.height(),
-            width: t.width(),
-        })
-    }
-}
 
 fn is_square<G: Table>(g: &G) -> bool
     ensures { result ≡ is_square (G.Table.meant g.now) }
@@ -41,44 +27,42 @@ fn is_lined<A: Table>(n: usize, a: &A) -> bool
     m <= MOST_ROWS && (m == 0 || a.width() == n)
 }
 
+fn sizes_of<T: Table>(t: &T) -> Refusal
+    ensures { result ≡ Sizes (height_of (T.Table.meant t.now)) (width_of (T.Table.meant t.now)) }
+{
+    Refusal::Sizes {
+        height: t.height(),
+        width: t.width(),
+    }
+}
+
 /// G before A.
-pub(crate) fn sizes_fault<G: Table, A: Table>(g: &G, a: &A) -> Option<Refusal>
-    ensures { result ≡ sizes_fault (G.Table.meant g.now) (A.Table.meant a.now) }
+pub(crate) fn check_sizes<G: Table, A: Table>(g: &G, a: &A) -> Result<(), Refusal>
+    ensures { result ≡ unless (sizes_fault (G.Table.meant g.now) (A.Table.meant a.now)) tt }
 {
-    size_fault(is_square(g), g).or(size_fault(is_lined(g.height(), a), a))
-}
-
-fn is_number(limit: u64, place: Option<i64>) -> bool
-    ensures { result ≡ is_number limit place }
-{
-    match place {
-        Some(x) => x.unsigned_abs() <= limit,
-        None => false,
+    if !is_square(g) {
+        return Err(sizes_of(g));
     }
+    if !is_lined(g.height(), a) {
+        return Err(sizes_of(a));
+    }
+    Ok(())
 }
 
-fn line_fault<T: Table>(limit: u64, t: &T, i: usize) -> Option<Refusal>
-    ensures { result ≡ line_fault limit (T.Table.meant t.now) i }
+fn check_places<T: Table>(limit: u64, t: &T) -> Result<(), Refusal>
+    ensures { result ≡ unless (places_fault limit (T.Table.meant t.now)) tt }
 {
-    let width = t.width();
-    for j in 0..width {
-        if !is_number(limit, t.place(i, j)) {
-            return Some(Refusal::Place { row: i, column: j });
+    for row in 0..t.height() {
+        for column in 0..t.width() {
+            if !t
+                .place(row, column)
+                .is_some_and(|x| x.unsigned_abs() <= limit)
+            {
+                return Err(Refusal::Place { row, column });
+            }
         }
     }
-    None
-}
-
-fn places_fault<T: Table>(limit: u64, t: &T) -> Option<Refusal>
-    ensures { result ≡ places_fault limit (T.Table.meant t.now) }
-{
-    let height = t.height();
-    for i in 0..height {
-        if let Some(fault) = line_fault(limit, t, i) {
-            return Some(fault);
-        }
-    }
-    None
+    Ok(())
 }
 
 /// The number at a place, 0 at a blank.
@@ -88,41 +72,24 @@ pub(crate) fn number_at<T: Table>(t: &T, i: usize, j: usize) -> i64
     t.place(i, j).unwrap_or(0)
 }
 
-fn is_same(x: i64, y: i64) -> bool
-    ensures { result ≡ same x y }
+fn check_symmetry<G: Table>(g: &G) -> Result<(), Refusal>
+    ensures { result ≡ unless (symmetry_fault (G.Table.meant g.now)) tt }
 {
-    x == y
-}
-
-fn mirror_fault<G: Table>(g: &G, i: usize) -> Option<Refusal>
-    ensures { result ≡ mirror_fault (G.Table.meant g.now) i }
-{
-    let width = g.width();
-    for j in 0..width {
-        if !is_same(number_at(g, i, j), number_at(g, j, i)) {
-            return Some(Refusal::Asymmetric { row: i, column: j });
+    for row in 0..g.height() {
+        for column in 0..g.width() {
+            if number_at(g, row, column) != number_at(g, column, row) {
+                return Err(Refusal::Asymmetric { row, column });
+            }
         }
     }
-    None
-}
-
-fn symmetry_fault<G: Table>(g: &G) -> Option<Refusal>
-    ensures { result ≡ symmetry_fault (G.Table.meant g.now) }
-{
-    let height = g.height();
-    for i in 0..height {
-        if let Some(fault) = mirror_fault(g, i) {
-            return Some(fault);
-        }
-    }
-    None
+    Ok(())
 }
 
 /// Places of G, places of A, symmetry of G.
-pub(crate) fn tables_fault<G: Table, A: Table>(g: &G, a: &A) -> Option<Refusal>
-    ensures { result ≡ tables_fault (G.Table.meant g.now) (A.Table.meant a.now) }
+pub(crate) fn check_tables<G: Table, A: Table>(g: &G, a: &A) -> Result<(), Refusal>
+    ensures { result ≡ unless (tables_fault (G.Table.meant g.now) (A.Table.meant a.now)) tt }
 {
-    places_fault(CURVATURE_LIMIT, g)
-        .or(places_fault(ROW_NUMBER_LIMIT, a))
-        .or(symmetry_fault(g))
+    check_places(CURVATURE_LIMIT, g)?;
+    check_places(ROW_NUMBER_LIMIT, a)?;
+    check_symmetry(g)
 }

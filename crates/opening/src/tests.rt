@@ -1,15 +1,15 @@
 use crate::lists::Lists;
-use crate::opening::opening_fault;
+use crate::opening::check_opening;
 use crate::refusal::Refusal;
 use table::{Record, Triplets};
 
-fn told(fault: Option<Refusal>) -> (u8, usize, usize) {
-    match fault {
-        Some(refusal) => {
+fn told(checked: Result<(), Refusal>) -> (u8, usize, usize) {
+    match checked {
+        Ok(()) => (0, 0, 0),
+        Err(refusal) => {
             let notice = refusal.notice();
             (notice.number, notice.first, notice.second)
         }
-        None => (0, 0, 0),
     }
 }
 
@@ -37,7 +37,7 @@ fn one_rope(slip: i64) -> (u8, usize, usize) {
         hi: &none,
         slip: &slips,
     };
-    told(opening_fault(&g, &a, &lists))
+    told(check_opening(&g, &a, &lists))
 }
 
 #[test]
@@ -62,5 +62,5 @@ fn asymmetry_before_lengths(rt: HostRuntime) {
         hi: &short,
         slip: &short,
     };
-    assert_eq!(rt; told(opening_fault(&g, &a, &lists)), (12, 0, 1));
+    assert_eq!(rt; told(check_opening(&g, &a, &lists)), (12, 0, 1));
 }
