@@ -21,19 +21,16 @@ back_of n r v e h l = ap back e ∙ back_is n v h l
 pub read_back : (b : ℕ) (xs : List ℤ) (i n : ℕ) (x : ℤ) → x ≡ get_or xs i x → i < n → n ≡ length xs → nat_abs (places xs i) ≤ b → b < 2 ^ 63 → back x ≡ places xs i
 read_back b xs i n x e l long small lt = back_of b x (places xs i) (get_or_read_under xs i n x (pos 0) e l long) small lt
 
--- a product and a sum, both of which fit
-module _ (s x y : ℤ) (fs : SFits w64 s) (fx : SFits w64 x) (fy : SFits w64 y) (hs : nat_abs s ≤ 2 ^ 61) (hp : nat_abs (x *ℤ y) ≤ 2 ^ 61) where
-  sum_fits : SFits w64 (s +ℤ x *ℤ y)
-  sum_fits = fits _ (s +ℤ x *ℤ y) (small_add (2 ^ 61) (2 ^ 61) s (x *ℤ y) hs hp) (omega arith)
+-- a sum t of which the code has s, and one product v w more, of which it has a b
+module _ (s a b t v w : ℤ) (es : s ≡ t) (ea : a ≡ v) (eb : b ≡ w) (ht : nat_abs t ≤ 2 ^ 61) (hp : nat_abs (v *ℤ w) ≤ 2 ^ 61) where
+  pub product_fits : SFits w64 (a *ℤ b)
+  product_fits = rw (ea, eb) (fits _ (v *ℤ w) hp (omega arith))
 
-  pub plus_product_fits : SFits w64 (back s +ℤ back (back x *ℤ back y))
-  plus_product_fits =
-      let fp : SFits w64 (x *ℤ y) = fits _ (x *ℤ y) hp (omega arith) in
-      let ft : SFits w64 (s +ℤ x *ℤ y) = sum_fits in
-      simp to_z-of_z ft
+  more_is : s +ℤ back (a *ℤ b) ≡ t +ℤ v *ℤ w
+  more_is = let p : back (a *ℤ b) ≡ a *ℤ b = to_z-of_z w64 _ product_fits in cc
 
-  pub plus_product_is : back (back s +ℤ back (back x *ℤ back y)) ≡ s +ℤ x *ℤ y
-  plus_product_is =
-      let fp : SFits w64 (x *ℤ y) = fits _ (x *ℤ y) hp (omega arith) in
-      let ft : SFits w64 (s +ℤ x *ℤ y) = sum_fits in
-      simp to_z-of_z
+  pub sum_fits : SFits w64 (s +ℤ back (a *ℤ b))
+  sum_fits = rw more_is (fits _ (t +ℤ v *ℤ w) (small_add (2 ^ 61) (2 ^ 61) t (v *ℤ w) ht hp) (omega arith))
+
+  pub sum_more : back (s +ℤ back (a *ℤ b)) ≡ t +ℤ v *ℤ w
+  sum_more = to_z-of_z w64 _ sum_fits ∙ more_is

@@ -3,7 +3,7 @@ use Rattle.std.proofs.Common.{◌≡◌, ℕ, Bool, List, length, ℤ, vec_items
 use Rattle.duality.specs.Lists.{places}
 use Rattle.duality.specs.Sums.{Matrix, row}
 use Rattle.duality.specs.Tests.{between}
-use Rattle.evaluate.specs.declared.terms.Terms.{Terms}
+use Rattle.terms.specs.declared.numbers.Terms.{Terms}
 
 -- number j of z lies within its bounds
 abbrev pub lies : Terms → List ℤ → ℕ → Bool

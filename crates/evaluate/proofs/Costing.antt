@@ -1,6 +1,5 @@
 -- The cost, as a loop over the rows of G adds it up.
-use Rattle.std.proofs.Common.{◌≡◌, ℕ, ◌+◌, ◌*◌, ◌^◌, ◌≤◌, true, List, length, ℤ, pos, ◌+ℤ◌, ◌*ℤ◌, nat_abs, vec_items, vec_len, sym, ap, ◌∙◌, le_refl, mul-le-mul, arith, w64, SFits}
-use Rattle.std.proofs.lemmas.Int.{to_z-of_z}
+use Rattle.std.proofs.Common.{◌≡◌, ℕ, ◌+◌, ◌*◌, ◌^◌, ◌<◌, ◌≤◌, true, List, length, get_or, ℤ, pos, ◌+ℤ◌, ◌*ℤ◌, nat_abs, vec_items, vec_len, sym, ap, ◌∙◌, le_refl, mul-le-mul, arith, w64, SFits}
 use Rattle.duality.specs.Lists.{places}
 use Rattle.duality.specs.Sums.{Vector, Matrix, ∑, row}
 use Rattle.duality.specs.Problem.{cost}
@@ -8,12 +7,13 @@ use Rattle.duality.proofs.Sums.{∑-more}
 use Rattle.duality.proofs.Sizes.{small_add, small_mul, small-∑}
 use Rattle.duality.proofs.Costs.{cost_rows}
 use Rattle.table.specs.Grid.{Grid, matrix_of}
-use Rattle.evaluate.specs.Terms.{problem_of}
+use Rattle.evaluate.specs.Stated.{problem_of}
 use Rattle.duality.specs.Tests.{many_within}
-use Rattle.evaluate.specs.declared.terms.Terms.{Terms}
+use Rattle.terms.specs.declared.numbers.Terms.{Terms}
 use Rattle.evaluate.proofs.Bits.{back, back_is, back_of}
+use Rattle.evaluate.proofs.Bits as bits
 use Rattle.evaluate.proofs.Summing.{Near, sum_small}
-use Rattle.evaluate.proofs.Reading.{c_small, many_long, many_small}
+use Rattle.evaluate.proofs.Reading.{c_small, c_read, many_long, many_small}
 
 -- place i of G z + 2 c
 abbrev pub steep : Matrix → Terms → List ℤ → Vector
@@ -27,10 +27,10 @@ module _ (M : Matrix) (near : Near M) (t : Terms) (z : List ℤ) (p : many_withi
   small : (k : ℕ) → nat_abs (places z k) ≤ 32768
   small = many_small (vec_len t.c) 32768 z p
 
-  pub along_small : (i : ℕ) → nat_abs (row (length z) M (places z) i) ≤ 2 ^ 39
+  along_small : (i : ℕ) → nat_abs (row (length z) M (places z) i) ≤ 2 ^ 39
   along_small i = sum_small (length z) 16 1048576 32768 (M i) (places z) (omega (arith, many_long (vec_len t.c) 32768 z p, t.some.1)) (near i) small
 
-  pub along_back : (i : ℕ) (r : ℤ) → r ≡ row (length z) M (places z) i → back r ≡ row (length z) M (places z) i
+  along_back : (i : ℕ) (r : ℤ) → r ≡ row (length z) M (places z) i → back r ≡ row (length z) M (places z) i
   along_back i r e = back_of (2 ^ 39) r _ e (along_small i) (omega arith)
 
   steep_small : (i : ℕ) → nat_abs (steep M t z i) ≤ 2 ^ 40
@@ -38,32 +38,53 @@ module _ (M : Matrix) (near : Near M) (t : Terms) (z : List ℤ) (p : many_withi
       let twice = small_mul 2 268435456 (pos 2) (places (vec_items t.c) i) (omega arith) (c_small t i) in
       omega (arith, small_add (2 ^ 39) (2 * 268435456) (row (length z) M (places z) i) (pos 2 *ℤ places (vec_items t.c) i) (along_small i) twice)
 
-  pub steep_back : (i : ℕ) (x v s : ℤ) → x ≡ row (length z) M (places z) i → v ≡ places (vec_items t.c) i → s ≡ x +ℤ pos 2 *ℤ v → back s ≡ steep M t z i
-  steep_back i x v s e f h = let d : s ≡ steep M t z i = cc in back_of (2 ^ 40) s _ d (steep_small i) (omega arith)
-
   place_back : (i : ℕ) → back (places z i) ≡ places z i
   place_back i = back_is 32768 _ (small i) (omega arith)
 
   part_small : (i : ℕ) → nat_abs (cost_part M t z i) ≤ 2 ^ 55
   part_small i = small_mul 32768 (2 ^ 40) (places z i) (steep M t z i) (small i) (steep_small i)
 
-  pub product_small : (i : ℕ) (s : ℤ) → s ≡ steep M t z i → nat_abs (back (places z i) *ℤ s) ≤ 2 ^ 61
-  product_small i s e = rw (place_back i, e) (omega (arith, part_small i))
-
-  pub total_small : (i : ℕ) (s : ℤ) → i ≤ vec_len t.c → s ≡ ∑ i (cost_part M t z) → nat_abs s ≤ 2 ^ 61
-  total_small i s l e =
-      rw e (omega (
+  total_small : (i : ℕ) → i < length z → nat_abs (∑ i (cost_part M t z)) ≤ 2 ^ 61
+  total_small i l =
+      omega (
         arith,
         small-∑ i (2 ^ 55) (cost_part M t z) (λ k _. part_small k),
-        mul-le-mul {n₁ = i} {m₁ = 2 ^ 55} {n₂ = 16} {m₂ = 2 ^ 55} (omega (arith, t.some.1)) (le_refl (2 ^ 55)),
-      ))
+        mul-le-mul {n₁ = i} {m₁ = 2 ^ 55} {n₂ = 16} {m₂ = 2 ^ 55} (omega (arith, many_long (vec_len t.c) 32768 z p, t.some.1)) (le_refl (2 ^ 55)),
+      )
 
-  pub cost_more : (i : ℕ) (s x r : ℤ) → SFits w64 r → s ≡ ∑ i (cost_part M t z) → x ≡ steep M t z i → r ≡ s +ℤ back (places z i) *ℤ x → back r ≡ ∑ (i + 1) (cost_part M t z)
-  cost_more i s x r f es ex er =
-      let b : back (places z i) ≡ places z i = place_back i in
-      let m : ∑ (i + 1) (cost_part M t z) ≡ ∑ i (cost_part M t z) +ℤ cost_part M t z i = ∑-more i (cost_part M t z) in
-      let d : r ≡ ∑ (i + 1) (cost_part M t z) = cc in
-      to_z-of_z w64 r f ∙ d
+  -- one turn: the row r of G z and the price v are read
+  module _ (i : ℕ) (l : i < length z) (r v : ℤ) (er : r ≡ row (length z) M (places z) i) (ev : v ≡ get_or (vec_items t.c) i v) where
+    price_back : back v ≡ places (vec_items t.c) i
+    price_back = c_read t i v ev (omega (arith, many_long (vec_len t.c) 32768 z p))
+
+    pub row_fits : nat_abs (back r) ≤ 2 ^ 55
+    row_fits = rw (along_back i r er) (omega (arith, along_small i))
+
+    pub price_fits : nat_abs (back v) ≤ 268435456
+    price_fits = rw price_back (c_small t i)
+
+    -- s is the sum so far, q the slope
+    module _ (s q : ℤ) (es : s ≡ ∑ i (cost_part M t z)) (eq : q ≡ back r +ℤ pos 2 *ℤ back v) where
+      slope_back : back q ≡ steep M t z i
+      slope_back =
+          let x : back r ≡ row (length z) M (places z) i = along_back i r er in
+          let y : back v ≡ places (vec_items t.c) i = price_back in
+          let d : q ≡ steep M t z i = cc in
+          back_of (2 ^ 40) q _ d (steep_small i) (omega arith)
+
+      part_fits : nat_abs (cost_part M t z i) ≤ 2 ^ 61
+      part_fits = omega (arith, part_small i)
+
+      pub product_fits : SFits w64 (back (places z i) *ℤ back q)
+      product_fits = bits.product_fits s (back (places z i)) (back q) _ (places z i) (steep M t z i) es (place_back i) slope_back (total_small i l) part_fits
+
+      pub sum_fits : SFits w64 (s +ℤ back (back (places z i) *ℤ back q))
+      sum_fits = bits.sum_fits s (back (places z i)) (back q) _ (places z i) (steep M t z i) es (place_back i) slope_back (total_small i l) part_fits
+
+      pub cost_more : back (s +ℤ back (back (places z i) *ℤ back q)) ≡ ∑ (i + 1) (cost_part M t z)
+      cost_more =
+          bits.sum_more s (back (places z i)) (back q) _ (places z i) (steep M t z i) es (place_back i) slope_back (total_small i l) part_fits
+          ∙ sym (∑-more i (cost_part M t z))
 
 pub cost_all : (g a : Grid) (t : Terms) (z : List ℤ) (i : ℕ) (s : ℤ) → length z ≡ vec_len t.c → i ≡ vec_len t.c → s ≡ ∑ i (cost_part (matrix_of g) t z) →
     s ≡ cost (problem_of g a t) (places z)

@@ -11,10 +11,10 @@ use Rattle.duality.specs.Refutation.{most_allowed, least_needed, Refutes}
 use Rattle.duality.proofs.Sizes.{small_add}
 use Rattle.duality.proofs.Refutation.{none_sound}
 use Rattle.table.specs.Grid.{Grid}
-use Rattle.evaluate.specs.Terms.{problem_of}
+use Rattle.evaluate.specs.Stated.{problem_of}
 use Rattle.duality.specs.Tests.{many_within}
 use Rattle.evaluate.specs.Floors.{slack_of_rows, slack_of_ropes, LeavesNone}
-use Rattle.evaluate.specs.declared.terms.Terms.{Terms}
+use Rattle.terms.specs.declared.numbers.Terms.{Terms}
 use Rattle.evaluate.proofs.Slacking.{row_part, row_part_small, rope_part, rope_part_small, most_part, most_part_small, least_part, least_part_small}
 use Rattle.evaluate.proofs.Widening.{wide, wide_fits, wide_of, parts_small}
 

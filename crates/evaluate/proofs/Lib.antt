@@ -1,7 +1,5 @@
 pub mod Bits
-pub mod Fitting
 pub mod Summing
-pub mod Weighing
 pub mod Widening
 pub mod Reading
 pub mod Costing

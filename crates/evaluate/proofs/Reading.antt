@@ -4,10 +4,10 @@ use Rattle.std.proofs.lemmas.Bool.{and_parts, eqb-true, cond-true}
 use Rattle.duality.specs.Lists.{places}
 use Rattle.duality.specs.Tests.{all_within}
 use Rattle.duality.proofs.Tests.{within_at}
-use Rattle.evaluate.specs.Terms.{Summable}
+use Rattle.evaluate.specs.Sums.{Summable}
 use Rattle.duality.specs.Tests.{many_within, answer}
-use Rattle.evaluate.specs.declared.terms.Terms.{Terms}
-use Rattle.evaluate.proofs.Bits.{back, read_back}
+use Rattle.terms.specs.declared.numbers.Terms.{Terms}
+use Rattle.evaluate.proofs.Bits.{back, back_of, read_back}
 
 pub many_long : (n limit : ℕ) (z : List ℤ) → many_within n limit z ≡ true → length z ≡ n
 many_long n limit z e = eqb-true _ _ (and_parts (eqb (length z) n) (all_within limit z) e).0
@@ -49,6 +49,13 @@ module _ (t : Terms) where
 
   pub hi_read : (i : ℕ) (x : ℤ) → x ≡ get_or (vec_items t.hi) i x → i < vec_len t.lo → back x ≡ places (vec_items t.hi) i
   hi_read i x e l = read_back 536870912 (vec_items t.hi) i (vec_len t.hi) x e (omega (arith, t.ceilings.0)) t.hi.ok.0 (hi_small i) (lit< tt)
+
+  -- what a loop over a list gives
+  pub lo_item : (i : ℕ) (xs : List ℤ) → xs ≡ vec_items t.lo → back (places xs i) ≡ places (vec_items t.lo) i
+  lo_item i xs e = back_of 536870912 (places xs i) _ (ap (λ (v : List ℤ). places v i) e) (lo_small i) (lit< tt)
+
+  pub l_item : (i : ℕ) (xs : List ℤ) → xs ≡ vec_items t.l → back (places xs i) ≡ places (vec_items t.l) i
+  l_item i xs e = back_of 32768 (places xs i) _ (ap (λ (v : List ℤ). places v i) e) (l_small i) (lit< tt)
 
   pub summable : (limit : ℕ) (z : List ℤ) → limit ≤ 1073741824 → many_within (vec_len t.c) limit z ≡ true → Summable z
   summable limit z le p =

@@ -7,9 +7,9 @@ use Rattle.duality.specs.Refutation.{highest, lowest, most_allowed, least_needed
 use Rattle.duality.proofs.Sizes.{small_add, small_sub, small_mul, small_max, small_min}
 use Rattle.table.specs.Grid.{Grid, matrix_of}
 use Rattle.table.proofs.Bounds.{matrix_near}
-use Rattle.evaluate.specs.Terms.{problem_of}
+use Rattle.evaluate.specs.Stated.{problem_of}
 use Rattle.duality.specs.Tests.{many_within}
-use Rattle.evaluate.specs.declared.terms.Terms.{Terms}
+use Rattle.terms.specs.declared.numbers.Terms.{Terms}
 use Rattle.evaluate.proofs.Bits.{back, back_of}
 use Rattle.evaluate.proofs.Summing.{sum_small}
 use Rattle.evaluate.proofs.Reading.{c_small, l_small, u_small, lo_small, hi_small, many_long, many_small}

@@ -1,12 +1,16 @@
 -- One turn of a sum along a row of a matrix with small numbers.
-use Rattle.std.proofs.Common.{◌≡◌, ℕ, ◌+◌, ◌*◌, ◌^◌, ◌<◌, ◌≤◌, List, length, ℤ, ◌+ℤ◌, ◌*ℤ◌, nat_abs, ap, ◌∙◌, le_refl, mul-le-mul, arith, w64, SFits}
-use Rattle.std.proofs.lemmas.Int.{to_z-of_z}
+use Rattle.std.proofs.Common.{◌≡◌, ℕ, ◌+◌, ◌*◌, ◌^◌, ◌<◌, ◌≤◌, List, length, ℤ, pos, ◌+ℤ◌, ◌*ℤ◌, nat_abs, Option, unwrap_or, sym, ap, ◌∙◌, le_refl, mul-le-mul, arith, w64, SFits}
 use Rattle.duality.specs.Lists.{places}
-use Rattle.duality.specs.Sums.{Vector, Matrix, dot, row}
+use Rattle.duality.specs.Sums.{Vector, Matrix, dot, row, column}
 use Rattle.duality.proofs.Sizes.{small_mul, small_dot}
-use Rattle.duality.proofs.Sums.{∑-more}
-use Rattle.evaluate.specs.Terms.{Summable}
+use Rattle.duality.proofs.Sums.{∑-more, ∑-cong}
+use Rattle.duality.proofs.Forms.{dot_comm}
+use Rattle.table.specs.Grid.{Grid, matrix_of}
+use Rattle.table.specs.Layers.{flipped}
+use Rattle.table.proofs.Swaps.{flipped_place}
+use Rattle.evaluate.specs.Sums.{Summable}
 use Rattle.evaluate.proofs.Bits.{back, back_is, back_of}
+use Rattle.evaluate.proofs.Bits as bits
 
 -- each number keeps to the limit of a place
 abbrev pub Near : Matrix → Type 0
@@ -22,31 +26,40 @@ sum_small n most p limit w z h hw hz =
     )
 
 module _ (M : Matrix) (near : Near M) (z : List ℤ) (h : Summable z) (i : ℕ) where
-  part_small : (k : ℕ) → k ≤ length z → nat_abs (row k M (places z) i) ≤ 16 * (1048576 * 1073741824)
-  part_small k l = sum_small k 16 1048576 1073741824 (M i) (places z) (omega (arith, h.few)) (near i) h.near
-
-  pub row_small : nat_abs (row (length z) M (places z) i) ≤ 2 ^ 54
-  row_small = omega (arith, part_small (length z) (le_refl (length z)))
+  part_small : (k : ℕ) → k ≤ length z → nat_abs (row k M (places z) i) ≤ 32 * (1048576 * 1073741824)
+  part_small k l = sum_small k 32 1048576 1073741824 (M i) (places z) (omega (arith, h.few)) (near i) h.near
 
   pub row_back : (r : ℤ) → r ≡ row (length z) M (places z) i → back r ≡ row (length z) M (places z) i
-  row_back r e = back_of (2 ^ 54) r _ e row_small (omega arith)
+  row_back r e = back_of (32 * (1048576 * 1073741824)) r _ e (part_small (length z) (le_refl (length z))) (omega arith)
 
-  pub running_small : (k : ℕ) (s : ℤ) → k < length z → s ≡ row k M (places z) i → nat_abs s ≤ 2 ^ 61
-  running_small k s l e = omega (arith, ap nat_abs e, part_small k (omega arith))
+  -- one turn
+  module _ (k : ℕ) (s x : ℤ) (l : k < length z) (es : s ≡ row k M (places z) i) (ex : x ≡ M i k) where
+    number_back : back x ≡ M i k
+    number_back = back_of 1048576 x _ ex (near i k) (omega arith)
 
-  number_back : (k : ℕ) (x : ℤ) → x ≡ M i k → back x ≡ M i k
-  number_back k x e = back_of 1048576 x _ e (near i k) (omega arith)
+    point_back : back (places z k) ≡ places z k
+    point_back = back_is 1073741824 _ (h.near k) (omega arith)
 
-  point_back : (k : ℕ) → back (places z k) ≡ places z k
-  point_back k = back_is 1073741824 _ (h.near k) (omega arith)
+    row_so_far : nat_abs (row k M (places z) i) ≤ 2 ^ 61
+    row_so_far = omega (arith, part_small k (omega arith))
 
-  pub product_small : (k : ℕ) (x : ℤ) → x ≡ M i k → nat_abs (back x *ℤ back (places z k)) ≤ 2 ^ 61
-  product_small k x e = rw (number_back k x e, point_back k) (omega (arith, small_mul 1048576 1073741824 (M i k) (places z k) (near i k) (h.near k)))
+    product_small : nat_abs (M i k *ℤ places z k) ≤ 2 ^ 61
+    product_small = omega (arith, small_mul 1048576 1073741824 (M i k) (places z k) (near i k) (h.near k))
 
-  pub row_more : (k : ℕ) (s x r : ℤ) → SFits w64 r → s ≡ row k M (places z) i → x ≡ M i k → r ≡ s +ℤ back x *ℤ back (places z k) → back r ≡ row (k + 1) M (places z) i
-  row_more k s x r f es ex er =
-      let bx : back x ≡ M i k = number_back k x ex in
-      let bz : back (places z k) ≡ places z k = point_back k in
-      let m : row (k + 1) M (places z) i ≡ row k M (places z) i +ℤ M i k *ℤ places z k = ∑-more k (λ j. M i j *ℤ places z j) in
-      let d : r ≡ row (k + 1) M (places z) i = cc in
-      to_z-of_z w64 r f ∙ d
+    pub product_fits : SFits w64 (back x *ℤ back (places z k))
+    product_fits = bits.product_fits s (back x) (back (places z k)) _ (M i k) (places z k) es number_back point_back row_so_far product_small
+
+    pub sum_fits : SFits w64 (s +ℤ back (back x *ℤ back (places z k)))
+    sum_fits = bits.sum_fits s (back x) (back (places z k)) _ (M i k) (places z k) es number_back point_back row_so_far product_small
+
+    pub row_more : back (s +ℤ back (back x *ℤ back (places z k))) ≡ row (k + 1) M (places z) i
+    row_more =
+        bits.sum_more s (back x) (back (places z k)) _ (M i k) (places z k) es number_back point_back row_so_far product_small
+        ∙ sym (∑-more k (λ j. M i j *ℤ places z j))
+
+-- down a column as along a row of the table with rows and columns swapped
+pub column_is : (g : Grid) (y : List ℤ) (n j : ℕ) → row n (matrix_of (flipped g)) (places y) j ≡ column n (matrix_of g) (places y) j
+column_is g y n j =
+    ∑-cong n (λ i. matrix_of (flipped g) j i *ℤ places y i) (λ i. matrix_of g i j *ℤ places y i)
+    (λ i _. ap (λ (o : Option ℤ). unwrap_or o (pos 0) *ℤ places y i) (flipped_place g j i))
+    ∙ dot_comm n (λ i. matrix_of g i j) (places y)

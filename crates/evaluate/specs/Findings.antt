@@ -1,10 +1,10 @@
 -- Which bound and which row a point breaks first, and when it is feasible.
-use Rattle.std.specs.Prelude.{ℕ, ◌<◌, Bool, cond, ◌&&◌, ◌≤ℤ◌, Some, None, Option}
+use Rattle.std.specs.Prelude.{ℕ, ◌<◌, Bool, cond, ◌&&◌, ◌≤ℤ◌, Some, None, Ok, Err, Option, Result}
 use Rattle.duality.specs.Sums.{Vector}
 use Rattle.duality.specs.Problem.{Problem, row_at}
 use Rattle.duality.specs.Tests.{all, first_not, between}
-use Rattle.evaluate.specs.declared.finding.Finding.{Finding}
-use Rattle.evaluate.specs.declared.finding.Finding.TheVariants.{Kept, Broken, NoPoint}
+use Rattle.terms.specs.declared.unmet.Unmet.{Unmet}
+use Rattle.terms.specs.declared.unmet.Unmet.TheVariants.{At, NoPoint}
 
 abbrev pub BoundKept : Problem → Vector → ℕ → Type 0
 BoundKept P z j = (P.l j ≤ℤ z j) × (z j ≤ℤ P.u j)
@@ -19,19 +19,19 @@ keeps_bound P z j = between (P.l j) (P.u j) (z j)
 abbrev pub keeps_row : Problem → Vector → ℕ → Bool
 keeps_row P z i = between (P.lo i) (P.hi i) (row_at P z i)
 
-abbrev pub finding : Option ℕ → Finding
-finding None = Kept
-finding (Some i) = Broken i
+abbrev pub finding : Option ℕ → Result (Unit {0}) Unmet
+finding None = Ok tt
+finding (Some i) = Err (At i)
 
 -- of a point, the first place below n that fails the test
-abbrev pub found : Bool → (ℕ → Bool) → ℕ → Finding
-found point p n = cond point (finding (first_not p n)) NoPoint
+abbrev pub found : Bool → (ℕ → Bool) → ℕ → Result (Unit {0}) Unmet
+found point p n = cond point (finding (first_not p n)) (Err NoPoint)
 
--- Law: a finding that names a place names the first one that is not kept.
-abbrev pub Finds : (ℕ → Type 0) → ℕ → Finding → Type 0
-Finds Keeps n Kept = (k : ℕ) → k < n → Keeps k
-Finds Keeps n (Broken i) = (i < n) × (Keeps i → ⊥) × ((k : ℕ) → k < i → Keeps k)
-Finds Keeps n NoPoint = Unit {0}
+-- Law: what names a place names the first one that is not kept.
+abbrev pub Finds : (ℕ → Type 0) → ℕ → Result (Unit {0}) Unmet → Type 0
+Finds Keeps n (Ok _) = (k : ℕ) → k < n → Keeps k
+Finds Keeps n (Err (At i)) = (i < n) × (Keeps i → ⊥) × ((k : ℕ) → k < i → Keeps k)
+Finds Keeps n (Err NoPoint) = Unit {0}
 
 -- every row and every bound is kept
 abbrev pub feasible : Problem → Vector → Bool

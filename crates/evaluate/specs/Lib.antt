@@ -1,4 +1,4 @@
-pub mod Terms
 pub mod Stated
+pub mod Sums
 pub mod Findings
 pub mod Floors

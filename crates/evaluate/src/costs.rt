@@ -3,27 +3,24 @@ ghost use Rattle.std.specs.Prelude.{◌≡◌, vec_len};
 ghost use Rattle.duality.specs.Lists.{places};
 ghost use Rattle.duality.specs.Problem.{cost as cost_of};
 ghost use Rattle.table.specs.Grid.{Grid};
-ghost use Rattle.evaluate.specs.Terms.{problem_of};
+ghost use Rattle.evaluate.specs.Stated.{problem_of};
 ghost use Rattle.duality.specs.Tests.{many_within, answer};
 
-use crate::checks::{PULL_LIMIT, many_within};
-use crate::sums::{plus_product, row_of, with_price};
-use crate::terms::Terms;
+use crate::sums::{row_of, with_price};
 use table::Table;
+use terms::{PULL_LIMIT, Terms, many_within};
 
 /// The cost of z, whatever the rows are. Nothing where z hasn't a number for each rope, or one beyond ±32,768.
 pub fn cost<T: Table>(g: &T, terms: &Terms, z: &[i64]) -> Option<i64>
     ensures { (a : Grid) → result ≡ answer (many_within (vec_len terms.now.c) 32768 z.now)
         (cost_of (problem_of (T.Table.meant g.now) a terms.now) (places z.now)) }
 {
-    let ropes = terms.c.len();
-    if !many_within(ropes, PULL_LIMIT, z) {
+    if !many_within(terms.c.len(), PULL_LIMIT, z) {
         return None;
     }
-    let mut total = 0i64;
-    for i in 0..ropes {
-        let slope = with_price(row_of(g, i, z), terms.c[i]);
-        total = plus_product(total, z[i], slope);
+    let mut total = 0;
+    for (i, x) in z.iter().enumerate() {
+        total += *x * with_price(row_of(g, i, z), terms.c[i]);
     }
     Some(total)
 }

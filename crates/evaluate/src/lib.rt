@@ -4,22 +4,19 @@
 #![tactic(auto)]
 
 mod bounds;
-mod checks;
 mod costs;
-mod finding;
 mod floors;
-mod makes;
 mod multipliers;
+mod pair;
 mod refutations;
 mod rows;
 mod sums;
-mod terms;
 mod wide;
 
-pub use bounds::first_broken_bound;
+pub use bounds::check_bounds;
 pub use costs::cost;
-pub use finding::Finding;
 pub use floors::floor;
+pub use pair::Pair;
 pub use refutations::refutes;
-pub use rows::{first_broken_row, is_feasible};
-pub use terms::Terms;
+pub use rows::{check_rows, is_feasible};
+pub use terms::{Terms, Unmet};

@@ -5,11 +5,8 @@ ghost use Rattle.duality.specs.Sums.{column};
 ghost use Rattle.duality.specs.Tests.{all_within};
 ghost use Rattle.table.specs.Grid.{matrix_of};
 
-use crate::sums::{number_at, plus_product};
-use table::Table;
-
-/// Multipliers of rows.
-pub(crate) const MULTIPLIER_LIMIT: u64 = 16_777_216;
+use crate::sums::sum_of_places;
+use table::{Flip, Table};
 
 /// Multipliers times column j, place by place.
 pub(crate) fn column_of<T: Table>(table: &T, j: usize, y: &[i64]) -> i64
@@ -17,9 +14,5 @@ pub(crate) fn column_of<T: Table>(table: &T, j: usize, y: &[i64]) -> i64
     requires near { all_within 16777216 y.now ≡ true }
     ensures { result ≡ column (length y.now) (matrix_of (T.Table.meant table.now)) (places y.now) j }
 {
-    let mut sum = 0i64;
-    for i in 0..y.len() {
-        sum = plus_product(sum, y[i], number_at(table, i, j));
-    }
-    sum
+    sum_of_places(&Flip::over(table), j, y)
 }

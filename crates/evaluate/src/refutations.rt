@@ -3,36 +3,35 @@ ghost use Rattle.std.specs.Prelude.{◌≡◌, true, IfSome, vec_len, Decides, i
 ghost use Rattle.duality.specs.Lists.{places};
 ghost use Rattle.duality.specs.Refutation.{most_allowed, least_needed, Refutes};
 ghost use Rattle.table.specs.Grid.{Grid};
-ghost use Rattle.evaluate.specs.Terms.{problem_of};
+ghost use Rattle.evaluate.specs.Stated.{problem_of};
 ghost use Rattle.duality.specs.Tests.{many_within, answer};
 ghost use Rattle.evaluate.specs.Floors.{LeavesNone};
 
-use crate::checks::many_within;
-use crate::multipliers::{MULTIPLIER_LIMIT, column_of};
-use crate::terms::Terms;
+use crate::multipliers::column_of;
 use crate::wide::{highest, lowest};
 use table::Table;
+use terms::{MULTIPLIER_LIMIT, Terms, many_within};
 
 /// The most that the bounds allow the weighed rows to be.
 fn most_allowed<T: Table>(a: &T, terms: &Terms, y: &[i64]) -> i128
-    requires weights { many_within (vec_len terms.now.lo) 16777216 y.now ≡ true }
+    requires { many_within (vec_len terms.now.lo) 16777216 y.now ≡ true }
     ensures { (g : Grid) → result ≡ most_allowed (problem_of g (T.Table.meant a.now) terms.now) (places y.now) }
 {
-    let mut total = 0i128;
-    for j in 0..terms.c.len() {
-        total += highest(column_of(a, j, y), terms.l[j], terms.u[j]);
+    let mut total = 0;
+    for (j, low) in terms.l.iter().enumerate() {
+        total += highest(column_of(a, j, y), *low, terms.u[j]);
     }
     total
 }
 
 /// The least that the rows' limits need them to be.
 fn least_needed(terms: &Terms, y: &[i64]) -> i128
-    requires weights { many_within (vec_len terms.now.lo) 16777216 y.now ≡ true }
+    requires { many_within (vec_len terms.now.lo) 16777216 y.now ≡ true }
     ensures { (g a : Grid) → result ≡ least_needed (problem_of g a terms.now) (places y.now) }
 {
-    let mut total = 0i128;
-    for i in 0..terms.lo.len() {
-        total += lowest(y[i], terms.lo[i], terms.hi[i]);
+    let mut total = 0;
+    for (i, weight) in y.iter().enumerate() {
+        total += lowest(*weight, terms.lo[i], terms.hi[i]);
     }
     total
 }

@@ -3,33 +3,32 @@ ghost use Rattle.std.specs.Prelude.{◌≡◌, IfSome, vec_len, Decides};
 ghost use Rattle.duality.specs.Lists.{places};
 ghost use Rattle.duality.specs.Problem.{Feasible};
 ghost use Rattle.table.specs.Grid.{Grid};
-ghost use Rattle.evaluate.specs.Terms.{problem_of};
+ghost use Rattle.evaluate.specs.Stated.{problem_of};
 ghost use Rattle.duality.specs.Tests.{many_within, answer};
 ghost use Rattle.evaluate.specs.Findings.{found, keeps_row, RowKept, Finds, feasible};
 
-use crate::bounds::first_broken_bound;
-use crate::checks::{ROUNDED_LIMIT, between, many_within};
-use crate::finding::Finding;
+use crate::bounds::check_bounds;
 use crate::sums::row_of;
-use crate::terms::Terms;
 use table::Table;
+use terms::{ROUNDED_LIMIT, Terms, Unmet, between, many_within};
 
-/// The first row whose sum at z lies outside its limits, whatever G is; z must have a number for each rope, within ±1,073,741,824.
-pub fn first_broken_row<T: Table>(a: &T, terms: &Terms, z: &[i64]) -> Finding
+/// Whether each row's sum at z lies within its limits, whatever G is: otherwise the first row whose sum doesn't,
+/// or that z hasn't a number for each rope, or one beyond ±1,073,741,824.
+pub fn check_rows<T: Table>(a: &T, terms: &Terms, z: &[i64]) -> Result<(), Unmet>
     ensures value { (g : Grid) → result ≡ found (many_within (vec_len terms.now.c) 1073741824 z.now)
         (keeps_row (problem_of g (T.Table.meant a.now) terms.now) (places z.now)) (vec_len terms.now.lo) }
     ensures law { (g : Grid) → Finds (RowKept (problem_of g (T.Table.meant a.now) terms.now) (places z.now))
         (vec_len terms.now.lo) result }
 {
     if !many_within(terms.c.len(), ROUNDED_LIMIT, z) {
-        return Finding::NoPoint;
+        return Err(Unmet::NoPoint);
     }
-    for i in 0..terms.lo.len() {
-        if !between(terms.lo[i], terms.hi[i], row_of(a, i, z)) {
-            return Finding::Broken(i);
+    for (i, low) in terms.lo.iter().enumerate() {
+        if !between(*low, terms.hi[i], row_of(a, i, z)) {
+            return Err(Unmet::At(i));
         }
     }
-    Finding::Kept
+    Ok(())
 }
 
 /// Whether z keeps every bound and every row, whatever G is. Nothing where z hasn't a number for each rope, or one beyond ±1,073,741,824.
@@ -38,13 +37,9 @@ pub fn is_feasible<T: Table>(a: &T, terms: &Terms, z: &[i64]) -> Option<bool>
         (feasible (problem_of g (T.Table.meant a.now) terms.now) (places z.now)) }
     ensures law { (g : Grid) → IfSome result (λ b. Decides b (Feasible (problem_of g (T.Table.meant a.now) terms.now) (places z.now))) }
 {
-    match first_broken_row(a, terms, z) {
-        Finding::NoPoint => None,
-        Finding::Broken(_) => Some(false),
-        Finding::Kept => match first_broken_bound(terms, z) {
-            Finding::NoPoint => None,
-            Finding::Broken(_) => Some(false),
-            Finding::Kept => Some(true),
-        },
+    match check_rows(a, terms, z) {
+        Ok(()) => Some(check_bounds(terms, z).is_ok()),
+        Err(Unmet::At(_)) => Some(false),
+        Err(Unmet::NoPoint) => None,
     }
 }

@@ -3,18 +3,9 @@ ghost use Rattle.std.specs.Prelude.{◌≡◌, ℕ, ◌^◌, ◌≤◌, length, 
 ghost use Rattle.duality.specs.Lists.{places};
 ghost use Rattle.duality.specs.Sums.{row};
 ghost use Rattle.table.specs.Grid.{matrix_of};
-ghost use Rattle.evaluate.specs.Terms.{Summable};
+ghost use Rattle.evaluate.specs.Sums.{Summable};
 
 use table::Table;
-
-/// One product more.
-pub(crate) fn plus_product(sum: i64, x: i64, y: i64) -> i64
-    requires sum { unsigned_abs sum ≤ 2 ^ 61 }
-    requires product { unsigned_abs (x *ℤ y) ≤ 2 ^ 61 }
-    ensures { result ≡ sum +ℤ x *ℤ y }
-{
-    sum + x * y
-}
 
 /// A row's part of the cost's gradient.
 pub(crate) fn with_price(sum: i64, price: i64) -> i64
@@ -29,20 +20,17 @@ pub(crate) fn with_price(sum: i64, price: i64) -> i64
 pub(crate) fn number_at<T: Table>(table: &T, i: usize, j: usize) -> i64
     ensures { result ≡ matrix_of (T.Table.meant table.now) i j }
 {
-    match table.place(i, j) {
-        Some(number) => number,
-        None => 0,
-    }
+    table.place(i, j).unwrap_or(0)
 }
 
 /// Row i times z, place by place.
-fn sum_of_places<T: Table>(table: &T, i: usize, z: &[i64]) -> i64
+pub(crate) fn sum_of_places<T: Table>(table: &T, i: usize, z: &[i64]) -> i64
     requires { Summable z.now }
     ensures { result ≡ row (length z.now) (matrix_of (T.Table.meant table.now)) (places z.now) i }
 {
-    let mut sum = 0i64;
-    for j in 0..z.len() {
-        sum = plus_product(sum, number_at(table, i, j), z[j]);
+    let mut sum = 0;
+    for (j, x) in z.iter().enumerate() {
+        sum += number_at(table, i, j) * *x;
     }
     sum
 }
@@ -52,8 +40,7 @@ pub(crate) fn row_of<T: Table>(table: &T, i: usize, z: &[i64]) -> i64
     requires { Summable z.now }
     ensures { result ≡ row (length z.now) (matrix_of (T.Table.meant table.now)) (places z.now) i }
 {
-    match table.product(i, z) {
-        Some(sum) => sum,
-        None => sum_of_places(table, i, z),
-    }
+    table
+        .product(i, z)
+        .unwrap_or_else(|| sum_of_places(table, i, z))
 }

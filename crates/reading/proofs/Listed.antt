@@ -10,15 +10,6 @@ use Rattle.duality.specs.Tests.{within, all_within}
 use Rattle.duality.proofs.Tests.{all_from}
 use Rattle.reading.specs.Plain.{listed}
 
--- one number more at the end of a row
-pub row_more : (xs ys zs : List ℤ) (f : Vector) (j : ℕ) (x : ℤ) → ys ≡ xs ++ map f (range_with_len 0 j) → zs ≡ ys ++ x ∷ [] → x ≡ f j →
-    zs ≡ xs ++ map f (range_with_len 0 (j + 1))
-row_more xs ys zs f j x inv e ex =
-    e
-    ∙ ap (λ (v : List ℤ). v ++ x ∷ []) inv
-    ∙ append_assoc xs (map f (range_with_len 0 j)) (x ∷ [])
-    ∙ ap (λ (v : List ℤ). xs ++ v) (ap (λ (y : ℤ). map f (range_with_len 0 j) ++ y ∷ []) ex ∙ sym (map-range_with_len_more f 0 j j (omega arith)))
-
 abbrev rows_from : Matrix → ℕ → ℕ → ℕ → List ℤ
 rows_from M k a n = flat_map (λ i. map (M i) (range_with_len 0 k)) (range_with_len a n)
 

@@ -5,14 +5,15 @@ use Rattle.table.specs.Grid.{Grid, matrix_of}
 use Rattle.table.specs.Layers.{flipped}
 use Rattle.table.proofs.Bounds.{matrix_near}
 use Rattle.table.proofs.Swaps.{flipped_place}
-use Rattle.evaluate.specs.Stated as terms
-use Rattle.evaluate.specs.declared.terms.Terms.{Terms}
+use Rattle.terms.specs.Numbers as terms
+use Rattle.terms.specs.declared.numbers.Terms.{Terms}
+use Rattle.evaluate.specs.Stated.{stated, problem_of as stated_of}
 use Rattle.job.specs.Numbers.{Numbers, numbers, numbers_of, problem, problem_of, sized, limited, fitting}
 use Rattle.job.specs.declared.numbers.Job.{Job}
 use Rattle.reading.specs.Plain.{listed, plain, Agrees}
 use Rattle.reading.proofs.Listed.{listed_long, listed_at, listed_same, listed_within}
 
-pub plain_agrees : (g a : Grid) (x : terms.Numbers) → Agrees (problem (plain g a x)) (terms.stated g a x)
+pub plain_agrees : (g a : Grid) (x : terms.Numbers) → Agrees (problem (plain g a x)) (stated g a x)
 plain_agrees g a x =
     record {
       same_ropes = refl;
@@ -92,5 +93,5 @@ module _ (g a : Grid) (t : Terms) where
     pub read_fits : fitting (numbers gs cs ws los his ls us) ≡ Some (numbers gs cs ws los his ls us)
     read_fits = ap fitting read_is ∙ wanted_fits ∙ ap Some (sym read_is)
 
-pub job_agrees : (g a : Grid) (t : Terms) (j : Job) → numbers_of j ≡ plain g a (terms.numbers_of t) → Agrees (problem_of j) (terms.problem_of g a t)
-job_agrees g a t j e = subst (λ (x : Numbers). Agrees (problem x) (terms.problem_of g a t)) (sym e) (plain_agrees g a (terms.numbers_of t))
+pub job_agrees : (g a : Grid) (t : Terms) (j : Job) → numbers_of j ≡ plain g a (terms.numbers_of t) → Agrees (problem_of j) (stated_of g a t)
+job_agrees g a t j e = subst (λ (x : Numbers). Agrees (problem x) (stated_of g a t)) (sym e) (plain_agrees g a (terms.numbers_of t))

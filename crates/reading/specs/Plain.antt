@@ -4,7 +4,7 @@ use Rattle.std.specs.List.{range_with_len, flat_map}
 use Rattle.duality.specs.Problem.{Problem, Feasible, cost}
 use Rattle.duality.specs.Sums.{Vector, Matrix}
 use Rattle.table.specs.Grid.{Grid, matrix_of}
-use Rattle.evaluate.specs.Stated as terms
+use Rattle.terms.specs.Numbers as terms
 use Rattle.job.specs.Numbers.{Numbers}
 
 -- n rows of k numbers, one after the other

@@ -2,15 +2,15 @@
 ghost use Rattle.std.specs.Prelude.{◌≡◌, ◌≤◌, ◌++◌, map, IfOk, Some, OnOk};
 ghost use Rattle.std.specs.List.{range_with_len};
 ghost use Rattle.table.specs.Grid.{matrix_of};
-ghost use Rattle.evaluate.specs.Terms.{problem_of as stated};
-ghost use Rattle.evaluate.specs.Stated.{numbers_of as terms_of};
+ghost use Rattle.terms.specs.Numbers.{numbers_of as terms_of};
+ghost use Rattle.evaluate.specs.Stated.{problem_of as stated};
 ghost use Rattle.job.specs.Numbers.{fitting, numbers, numbers_of, problem_of};
 ghost use Rattle.reading.specs.Plain.{listed, plain, Agrees, SamePoints};
 
-use evaluate::Terms;
 use job::Job;
 use std::alloc::{AllocError, Global};
 use table::{Flip, Table};
+use terms::Terms;
 
 /// Puts the first `count` numbers of row i at the end of a list.
 fn push_row<T: Table>(
@@ -21,10 +21,7 @@ fn push_row<T: Table>(
 ) -> Result<(), AllocError>
     ensures { OnOk result (list.new.items ≡ list.old.items ++ map (matrix_of (T.Table.meant table.now) i) (range_with_len 0 count)) }
 {
-    for j in 0..count {
-        list.push(table.place(i, j).unwrap_or(0))?;
-    }
-    Ok(())
+    list.extend((0..count).map(|j| table.place(i, j).unwrap_or(0)))
 }
 
 /// The first rows of a table, so many numbers of each, one row after the other.
@@ -58,10 +55,7 @@ fn job_of(
         ≡ Some (numbers g.items c.items a.items lo.items hi.items l.items u.items) }
     ensures { numbers_of result ≡ numbers g.items c.items a.items lo.items hi.items l.items u.items }
 {
-    match Job::new(g, c, a, lo, hi, l, u) {
-        Some(job) => job,
-        None => unreachable(),
-    }
+    Job::new(g, c, a, lo, hi, l, u).unwrap()
 }
 
 /// The job that two tables and the terms state: G read row by row, A rope by rope, with 0 for a blank, and the terms' lists as they stand.

@@ -1,6 +1,6 @@
 use Rattle.std.proofs.Common.{sym}
 use Rattle.duality.specs.Lists.{places}
-use Rattle.evaluate.specs.Terms.{problem_of}
+use Rattle.evaluate.specs.Stated.{problem_of}
 use Rattle.evaluate.proofs.Reading.{many_at, answered}
 use Rattle.evaluate.proofs.Flooring.{compared, refutes_decides, leaves_none}
 use Rattle.evaluate.proofs.refutations.refutes.Goals as goal

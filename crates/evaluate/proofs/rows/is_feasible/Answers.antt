@@ -1,64 +1,45 @@
-use Rattle.std.proofs.Common.{true, false, Some, None, vec_len, sym}
-use Rattle.std.proofs.lemmas.Bool.{both_ways, cond-false, eq-eqb}
+use Rattle.std.proofs.Common.{Bool, false, ◌&&◌, is_ok, Some, None, vec_len, sym, ap, ◌∙◌}
+use Rattle.std.proofs.lemmas.Bool.{cond-false, and_left, eq-eqb}
 use Rattle.duality.specs.Lists.{places}
+use Rattle.duality.specs.Tests.{all}
 use Rattle.table.specs.Grid.{Grid, matrix_of}
-use Rattle.evaluate.specs.Terms.{problem_of}
+use Rattle.evaluate.specs.Stated.{problem_of}
 use Rattle.evaluate.specs.Findings.{feasible}
 use Rattle.evaluate.proofs.Bounding.{lies, meets}
 use Rattle.evaluate.proofs.Reading.{answered, many_long}
-use Rattle.evaluate.proofs.Firsts.{decided, no_point, broken_point, kept_point, row_refuses, bound_refuses, both_keep}
+use Rattle.evaluate.proofs.Firsts.{decided, no_point, at_point, kept_point, ok_all}
 use Rattle.evaluate.proofs.rows.is_feasible.Goals as goal
 
-pub returns-in-NoPoint : goal.returns-in-NoPoint
-returns-in-NoPoint g c =
+pub returns-in-Ok : goal.returns-in-Ok
+returns-in-Ok g c =
     let t = c.args.terms.now in
     let z = c.args.z.now in
     let grid = g.T.Table.meant c.args.a.now in
+    let p = kept_point _ (meets (matrix_of grid) t z) (vec_len t.lo) _ (c.in-Ok.ensures.value grid) in
+    let long = eq-eqb _ _ (many_long _ 1073741824 z p.0) in
+    let yes' = λ (h : Grid).
+    c.is_ok.ensures.value
+    ∙ ap is_ok (c.check_bounds.ensures.value h grid)
+    ∙ ok_all _ (lies t z) (vec_len t.c) long
+    ∙ sym (ap (λ (b : Bool). b && all (lies t z) (vec_len t.c)) p.1) in
+    record { value = λ h. answered _ _ _ p.0 (yes' h); law = λ h. decided (problem_of h grid t) (places z) _ (yes' h) }
+
+pub returns-in-Err-At : goal.returns-in-Err-At
+returns-in-Err-At g c =
+    let t = c.args.terms.now in
+    let z = c.args.z.now in
+    let grid = g.T.Table.meant c.args.a.now in
+    let p = at_point _ (meets (matrix_of grid) t z) _ (vec_len t.lo) (rw c.in-Err-At.field-0-is at (c.in-Err-At.ensures.value grid)) in
+    let no' = sym (and_left _ (all (lies t z) (vec_len t.c)) p.1) in
+    record { value = λ h. answered _ _ _ p.0 no'; law = λ h. decided (problem_of h grid t) (places z) false no' }
+
+pub returns-in-Err-NoPoint : goal.returns-in-Err-NoPoint
+returns-in-Err-NoPoint g c =
+    let t = c.args.terms.now in
+    let z = c.args.z.now in
+    let grid = g.T.Table.meant c.args.a.now in
+    let p = no_point _ (meets (matrix_of grid) t z) (vec_len t.lo) (rw c.in-Err-NoPoint.field-0-is at (c.in-Err-NoPoint.ensures.value grid)) in
     record {
-      value = λ h. sym (cond-false _ (Some (feasible (problem_of h grid t) (places z))) None (no_point _ (meets (matrix_of grid) t z) (vec_len t.lo) (c.in-NoPoint.ensures.value h)));
+      value = λ h. sym (cond-false _ (Some (feasible (problem_of h grid t) (places z))) None p);
       law = λ h. tt;
-    }
-
-pub returns-in-Broken : goal.returns-in-Broken
-returns-in-Broken g c =
-    let t = c.args.terms.now in
-    let z = c.args.z.now in
-    let grid = g.T.Table.meant c.args.a.now in
-    let no' = λ (h : Grid). row_refuses (problem_of h grid t) (places z) _ (c.in-Broken.ensures.law h) in
-    record {
-      value = λ h. answered _ _ _ (broken_point _ (meets (matrix_of grid) t z) _ (vec_len t.lo) (c.in-Broken.ensures.value h)) (no' h);
-      law = λ h. decided (problem_of h grid t) (places z) false (no' h);
-    }
-
-pub returns-in-NoPoint-first_broken_bound : goal.returns-in-NoPoint-first_broken_bound
-returns-in-NoPoint-first_broken_bound g c =
-    let t = c.args.terms.now in
-    let z = c.args.z.now in
-    let grid = g.T.Table.meant c.args.a.now in
-    let p = kept_point _ (meets (matrix_of grid) t z) (vec_len t.lo) (c.in-Kept.ensures.value grid) in
-    let q = no_point _ (lies t z) (vec_len t.c) (c.in-NoPoint-first_broken_bound.ensures.value grid grid) in
-    absurd (both_ways _ q (eq-eqb _ _ (many_long _ 1073741824 z p)))
-
-pub returns-in-Broken-first_broken_bound : goal.returns-in-Broken-first_broken_bound
-returns-in-Broken-first_broken_bound g c =
-    let t = c.args.terms.now in
-    let z = c.args.z.now in
-    let grid = g.T.Table.meant c.args.a.now in
-    let p = kept_point _ (meets (matrix_of grid) t z) (vec_len t.lo) (c.in-Kept.ensures.value grid) in
-    let no' = λ (h : Grid). bound_refuses (problem_of h grid t) (places z) _ (c.in-Broken-first_broken_bound.ensures.law h grid) in
-    record {
-      value = λ h. answered _ _ _ p (no' h);
-      law = λ h. decided (problem_of h grid t) (places z) false (no' h);
-    }
-
-pub returns-in-Kept-first_broken_bound : goal.returns-in-Kept-first_broken_bound
-returns-in-Kept-first_broken_bound g c =
-    let t = c.args.terms.now in
-    let z = c.args.z.now in
-    let grid = g.T.Table.meant c.args.a.now in
-    let p = kept_point _ (meets (matrix_of grid) t z) (vec_len t.lo) (c.in-Kept.ensures.value grid) in
-    let yes' = λ (h : Grid). both_keep (problem_of h grid t) (places z) (c.in-Kept.ensures.law h) (c.in-Kept-first_broken_bound.ensures.law h grid) in
-    record {
-      value = λ h. answered _ _ _ p (yes' h);
-      law = λ h. decided (problem_of h grid t) (places z) true (yes' h);
     }

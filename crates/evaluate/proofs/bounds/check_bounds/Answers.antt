@@ -4,17 +4,19 @@ use Rattle.std.proofs.lemmas.Bool.{eq-eqb, ne_eqb}
 use Rattle.duality.specs.Lists.{places}
 use Rattle.duality.specs.Tests.{first_not}
 use Rattle.duality.proofs.Tests.{first_more}
-use Rattle.evaluate.specs.Terms.{problem_of}
+use Rattle.evaluate.specs.Stated.{problem_of}
 use Rattle.evaluate.specs.Findings.{BoundKept}
 use Rattle.evaluate.proofs.Reading.{l_read, u_read}
-use Rattle.evaluate.proofs.Firsts.{bound_decides, finds_broken, finds_kept, found_broken, found_kept, found_no_point}
+use Rattle.evaluate.proofs.Firsts.{bound_decides, finds, found_broken, found_kept, found_no_point}
 use Rattle.evaluate.proofs.Bounding.{lies, lies_is}
-use Rattle.evaluate.proofs.bounds.first_broken_bound.Goals as goal
+use Rattle.evaluate.proofs.bounds.check_bounds.Goals as goal
 
-pub returns-then-z-ropes : goal.returns-then-z-ropes
-returns-then-z-ropes c =
+pub returns-then-z-len : goal.returns-then-z-len
+returns-then-z-len c =
+    let t = c.args.terms.now in
+    let z = c.args.z.now in
     record {
-      value = λ g a. found_no_point _ (lies c.args.terms.now c.args.z.now) (vec_len c.args.terms.now.c) (ne_eqb _ _ (λ e. c.if-z-ropes.true (e ∙ sym c.len-ropes.ensures)));
+      value = λ g a. found_no_point _ (lies t z) (vec_len t.c) (ne_eqb _ _ (λ e. c.if-z-len.true (e ∙ sym c.len.ensures)));
       law = λ g a. tt;
     }
 
@@ -27,10 +29,10 @@ returns-then-not-between c =
     let u = u_read t c.loop-j.j _ c.index-in-loop-j.ensures (omega arith) in
     let no' = lies_is t z c.loop-j.j _ _ _ false l u (to_z-of_z w64 _ f) c.if-not-between.ensures in
     let long : length z ≡ vec_len t.c = omega arith in
+    let e = found_broken _ (lies t z) c.loop-j.j (vec_len t.c) (eq-eqb _ _ long) c.loop-j.invariant no' (omega arith) in
     record {
-      value = λ g a. found_broken _ (lies t z) c.loop-j.j (vec_len t.c) (eq-eqb _ _ long) c.loop-j.invariant no' (omega arith);
-      law = λ g a. finds_broken (lies t z) (BoundKept (problem_of g a t) (places z)) (bound_decides (problem_of g a t) (places z)) c.loop-j.j (vec_len t.c) c.loop-j.invariant no'
-          (omega arith);
+      value = λ g a. e;
+      law = λ g a. finds _ (lies t z) (BoundKept (problem_of g a t) (places z)) (bound_decides (problem_of g a t) (places z)) (vec_len t.c) _ e;
     }
 
 pub loop-j-preserved : goal.loop-j-preserved
@@ -48,8 +50,8 @@ returns c =
     let z = c.args.z.now in
     let long : length z ≡ vec_len t.c = omega arith in
     let e : c.loop-j.j ≡ vec_len t.c = omega arith in
-    let all = ap (first_not (lies t z)) (sym e) ∙ c.loop-j.invariant in
+    let all = found_kept _ (lies t z) (vec_len t.c) (eq-eqb _ _ long) (ap (first_not (lies t z)) (sym e) ∙ c.loop-j.invariant) in
     record {
-      value = λ g a. found_kept _ (lies t z) (vec_len t.c) (eq-eqb _ _ long) all;
-      law = λ g a. finds_kept (lies t z) (BoundKept (problem_of g a t) (places z)) (bound_decides (problem_of g a t) (places z)) (vec_len t.c) all;
+      value = λ g a. all;
+      law = λ g a. finds _ (lies t z) (BoundKept (problem_of g a t) (places z)) (bound_decides (problem_of g a t) (places z)) (vec_len t.c) _ all;
     }

@@ -1,16 +1,16 @@
-use Rattle.std.proofs.Common.{◌≡◌, true, false, vec_len, sym, ap, ◌∙◌, le_refl, arith}
+use Rattle.std.proofs.Common.{◌≡◌, true, false, length, vec_len, sym, ap, ◌∙◌, le_refl, arith}
 use Rattle.duality.specs.Lists.{places}
 use Rattle.duality.specs.Tests.{first_not}
 use Rattle.duality.proofs.Tests.{first_more}
 use Rattle.table.specs.Grid.{matrix_of}
 use Rattle.table.proofs.Bounds.{matrix_near}
-use Rattle.evaluate.specs.Terms.{problem_of}
+use Rattle.evaluate.specs.Stated.{problem_of}
 use Rattle.evaluate.specs.Findings.{RowKept}
 use Rattle.evaluate.proofs.Summing.{row_back}
-use Rattle.evaluate.proofs.Reading.{lo_read, hi_read, many_at, many_long, summable}
-use Rattle.evaluate.proofs.Firsts.{row_decides, finds_broken, finds_kept, found_broken, found_kept}
+use Rattle.evaluate.proofs.Reading.{lo_item, hi_read, many_at, many_long, summable}
+use Rattle.evaluate.proofs.Firsts.{row_decides, finds, found_broken, found_kept}
 use Rattle.evaluate.proofs.Bounding.{meets, meets_is}
-use Rattle.evaluate.proofs.rows.first_broken_row.Goals as goal
+use Rattle.evaluate.proofs.rows.check_rows.Goals as goal
 
 pub row_of-requires : goal.row_of-requires
 row_of-requires g c =
@@ -23,14 +23,15 @@ returns-then-not-between g c =
     let z = c.args.z.now in
     let grid = g.T.Table.meant c.args.a.now in
     let p = many_at _ _ 1073741824 z c.len.ensures (sym c.if-not-many_within.ensures) in
-    let lo = lo_read t c.loop-i.i _ c.index.ensures (omega arith) in
-    let hi = hi_read t c.loop-i.i _ c.index-in-loop-i.ensures (omega arith) in
+    let same = c.deref-low-items.ensures.value in
+    let lo = lo_item t c.loop-i.i _ same in
+    let hi = hi_read t c.loop-i.i _ c.index.ensures (omega (arith, t.lo.ok.0, ap length same)) in
     let s = row_back (matrix_of grid) (matrix_near grid) z (summable t 1073741824 z (le_refl 1073741824) p) c.loop-i.i c.row_of.result c.row_of.ensures in
     let no' = meets_is (matrix_of grid) t z c.loop-i.i _ _ _ false (many_long _ 1073741824 z p) lo hi s c.if-not-between.ensures in
+    let e = found_broken _ (meets (matrix_of grid) t z) c.loop-i.i (vec_len t.lo) p c.loop-i.invariant no' (omega (arith, t.lo.ok.0, ap length same)) in
     record {
-      value = λ h. found_broken _ (meets (matrix_of grid) t z) c.loop-i.i (vec_len t.lo) p c.loop-i.invariant no' (omega arith);
-      law = λ h. finds_broken (meets (matrix_of grid) t z) (RowKept (problem_of h grid t) (places z)) (row_decides (problem_of h grid t) (places z)) c.loop-i.i (vec_len t.lo)
-          c.loop-i.invariant no' (omega arith);
+      value = λ h. e;
+      law = λ h. finds _ (meets (matrix_of grid) t z) (RowKept (problem_of h grid t) (places z)) (row_decides (problem_of h grid t) (places z)) (vec_len t.lo) _ e;
     }
 
 pub loop-i-preserved : goal.loop-i-preserved
@@ -39,8 +40,9 @@ loop-i-preserved g c =
     let z = c.args.z.now in
     let grid = g.T.Table.meant c.args.a.now in
     let p = many_at _ _ 1073741824 z c.len.ensures (sym c.if-not-many_within.ensures) in
-    let lo = lo_read t c.loop-i.i _ c.index.ensures (omega arith) in
-    let hi = hi_read t c.loop-i.i _ c.index-in-loop-i.ensures (omega arith) in
+    let same = c.deref-low-items.ensures.value in
+    let lo = lo_item t c.loop-i.i _ same in
+    let hi = hi_read t c.loop-i.i _ c.index.ensures (omega (arith, t.lo.ok.0, ap length same)) in
     let s = row_back (matrix_of grid) (matrix_near grid) z (summable t 1073741824 z (le_refl 1073741824) p) c.loop-i.i c.row_of.result c.row_of.ensures in
     first_more (meets (matrix_of grid) t z) c.loop-i.i c.loop-i.invariant
     (meets_is (matrix_of grid) t z c.loop-i.i _ _ _ true (many_long _ 1073741824 z p) lo hi s c.if-not-between.ensures)
@@ -51,9 +53,10 @@ returns g c =
     let z = c.args.z.now in
     let grid = g.T.Table.meant c.args.a.now in
     let p = many_at _ _ 1073741824 z c.len.ensures (sym c.if-not-many_within.ensures) in
-    let e : c.loop-i.i ≡ vec_len t.lo = omega arith in
-    let all = ap (first_not (meets (matrix_of grid) t z)) (sym e) ∙ c.loop-i.invariant in
+    let same = c.deref-low-items.ensures.value in
+    let e : c.loop-i.i ≡ vec_len t.lo = omega (arith, t.lo.ok.0, ap length same) in
+    let all = found_kept _ (meets (matrix_of grid) t z) (vec_len t.lo) p (ap (first_not (meets (matrix_of grid) t z)) (sym e) ∙ c.loop-i.invariant) in
     record {
-      value = λ h. found_kept _ (meets (matrix_of grid) t z) (vec_len t.lo) p all;
-      law = λ h. finds_kept (meets (matrix_of grid) t z) (RowKept (problem_of h grid t) (places z)) (row_decides (problem_of h grid t) (places z)) (vec_len t.lo) all;
+      value = λ h. all;
+      law = λ h. finds _ (meets (matrix_of grid) t z) (RowKept (problem_of h grid t) (places z)) (row_decides (problem_of h grid t) (places z)) (vec_len t.lo) _ all;
     }
