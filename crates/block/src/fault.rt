@@ -68,28 +68,28 @@ impl Fault {
 
 impl fmt::Display for Layer {
     fn fmt<W: fmt::Write>(&self, f: &mut fmt::Formatter<W>) -> fmt::Result {
-        match self {
-            Layer::Card => write!(f, "card"),
-            Layer::Table => write!(f, "table"),
-            Layer::Plan => write!(f, "plan"),
-        }
+        f.write_str(match self {
+            Layer::Card => "card",
+            Layer::Table => "table",
+            Layer::Plan => "plan",
+        })
     }
 }
 
 /// A notice as programs print it: its number and its places.
 impl fmt::Display for Notice {
     fn fmt<W: fmt::Write>(&self, f: &mut fmt::Formatter<W>) -> fmt::Result {
-        let number = self.number;
-        let first = self.first;
-        let second = self.second;
-        write!(f, "refused {number} at {first} {second}")
+        write!(
+            f,
+            "refused {} at {} {}",
+            self.number, self.first, self.second
+        )
     }
 }
 
 impl fmt::Display for Fault {
     fn fmt<W: fmt::Write>(&self, f: &mut fmt::Formatter<W>) -> fmt::Result {
-        let notice = self.notice();
-        write!(f, "{notice}")
+        write!(f, "{}", self.notice())
     }
 }
 
