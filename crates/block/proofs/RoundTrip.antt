@@ -12,7 +12,7 @@ use Rattle.block.specs.Spares.{Exact}
 use Rattle.block.proofs.LittleEndian.{two_back}
 use Rattle.block.proofs.FirstSet.{spare_ok}
 use Rattle.block.proofs.NumbersAsBytes.{drop_four, numbers_bytes, none_set, zeros_none, zero_numbers, joined4_append, read_back}
-use Rattle.block.proofs.Laying.{length_body, length_joined4}
+use Rattle.block.proofs.Laying.{length_body, length_joined4, body_splits}
 
 -- what a block that passes says
 pub record Passed (block : List ℕ) (letter number used : ℕ) : Type 0 where
@@ -127,17 +127,6 @@ module _ (letter number : ℕ) (nums : List ℤ) (hn : number < 65536) (le : len
   unfolding block_of
   take_block = take_at (body_of letter number nums) (bytes2 (weighed 0 (body_of letter number nums) % 65521)) 510 (length_body letter number nums le)
 
-  -- the body has its letter, a 0, the number, the numbers, and zeros up to its end
-  body_splits : body_of letter number nums ≡ (letter ∷ 0 ∷ (bytes2 number ++ flat_map bytes4 nums)) ++ replicate (506 - length nums * 4) 0
-  unfolding body_of
-  body_splits =
-      let X : List ℕ = flat_map bytes4 nums in
-      let spare : flat_map bytes4 (filled nums) ≡ X ++ replicate ((126 - length nums) * 4) 0 = joined4_append nums (replicate (126 - length nums) (pos 0)) ∙ ap (λ r. X ++ r) (zero_numbers (126 - length nums)) in
-      let same : (126 - length nums) * 4 + 2 ≡ 506 - length nums * 4 = omega arith in
-      let zeros : replicate ((126 - length nums) * 4) 0 ++ (0 ∷ 0 ∷ []) ≡ replicate (506 - length nums * 4) 0 = replicate-append-replicate ((126 - length nums) * 4) 2 0 ∙ ap (λ m. replicate m 0) same in
-      ap (λ t. letter ∷ 0 ∷ (bytes2 number ++ t))
-      (ap (λ r. r ++ (0 ∷ 0 ∷ [])) spare ∙ (append_assoc X (replicate ((126 - length nums) * 4) 0) (0 ∷ 0 ∷ []) ∙ ap (λ r. X ++ r) zeros))
-
   pub block_passed : Passed (block_of letter number nums) letter number (length nums)
   unfolding block_of body_of
   block_passed =
@@ -154,7 +143,7 @@ module _ (letter number : ℕ) (nums : List ℤ) (hn : number < 65536) (le : len
         letter_is = refl;
         number_is = two_back number hn;
         second_is = refl;
-        rest_is = ap (λ b. first_set (4 + length nums * 4) (drop (4 + length nums * 4) b)) (take_block ∙ body_splits)
+        rest_is = ap (λ b. first_set (4 + length nums * 4) (drop (4 + length nums * 4) b)) (take_block ∙ body_splits letter number nums le)
             ∙ (ap (first_set (4 + length nums * 4)) (drop_at F (replicate (506 - length nums * 4) 0) (4 + length nums * 4) count) ∙ zeros_none (4 + length nums * 4) (506 - length nums * 4));
       }
 
@@ -170,17 +159,24 @@ module _ (letter number : ℕ) (nums : List ℤ) (hn : number < 65536) (le : len
       ap (λ b. map (λ i. num b (4 + i * 4)) (range_with_len 0 (length nums))) (ap (λ t. H ++ t) e)
       ∙ read_back nums fits H (Z ++ (0 ∷ 0 ∷ []) ++ S) 0 refl
 
--- exactly the block that is made of its own numbers passes
-pub exact : (block : List ℕ) → ((k : ℕ) → get_or block k 0 < 256) → length block ≡ 512 → (letter number used : ℕ) → number < 65536
-    → Exact block letter number used (block_check block letter number used)
-exact block small long letter number used hn =
-    record {
-      made = λ le e. block_back block small long letter number used le (passed block letter number used e);
-      passes = λ le e.
-          let nums : List ℤ = numbers_of block used in
-          let count : length nums ≡ used = length_numbers block used in
-          let short : length nums ≤ 126 = omega arith in
-          ap (λ b. block_check b letter number used) e
-          ∙ (ap (block_check (block_of letter number nums) letter number) (sym count)
-          ∙ passes (block_of letter number nums) letter number (length nums) (block_passed letter number nums hn short));
-    }
+module _ (block : List ℕ) (long : length block ≡ 512) (letter number used : ℕ) (hn : number < 65536) where
+  made_passes : used ≤ 126 → block ≡ block_of letter number (numbers_of block used) → block_check block letter number used ≡ Ok tt
+  made_passes le e =
+      let nums : List ℤ = numbers_of block used in
+      let count : length nums ≡ used = length_numbers block used in
+      let short : length nums ≤ 126 = omega arith in
+      ap (λ b. block_check b letter number used) e
+      ∙ (ap (block_check (block_of letter number nums) letter number) (sym count)
+      ∙ passes (block_of letter number nums) letter number (length nums) (block_passed letter number nums hn short))
+
+  -- exactly the block that is made of its own numbers passes
+  pub exact_at : ((k : ℕ) → get_or block k 0 < 256) → (v : Verdict) → v ≡ block_check block letter number used → Exact block letter number used v
+  exact_at small v e =
+      record {
+        made = λ le p. block_back block small long letter number used le (passed block letter number used (sym e ∙ p));
+        passes = λ le b. e ∙ made_passes le b;
+      }
+
+  -- and a block with a fault is made of no numbers
+  pub inexact_at : (v : Verdict) (f : Fault) → v ≡ Err f → v ≡ block_check block letter number used → Exact block letter number used v
+  inexact_at v f r e = record { made = λ le p. cc; passes = λ le b. e ∙ made_passes le b }

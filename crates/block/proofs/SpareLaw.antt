@@ -1,5 +1,5 @@
 -- The first spare byte that is set: all before it are 0, and where there is none, all are.
-use Rattle.std.proofs.Common.{◌≡◌, ℕ, suc, ◌+◌, ◌-◌, ◌*◌, ◌<◌, ◌≤◌, Bool, true, false, cond, eqb, List, [], ◌∷◌, length, get_or, take, drop, Some, None, Err, Option, sym, refl, ap, ◌∙◌, inl, inr, ⊎_elim, arith}
+use Rattle.std.proofs.Common.{◌≡◌, ℕ, suc, ◌+◌, ◌-◌, ◌*◌, ◌<◌, ◌≤◌, Bool, true, false, cond, eqb, List, [], ◌∷◌, length, get_or, take, drop, Some, None, Err, Option, sym, refl, ap, ◌∙◌, subst, inl, inr, ⊎_elim, arith}
 use Rattle.std.proofs.lemmas.List.{get_or-take, get_or-drop, length-take, length-drop}
 use Rattle.std.proofs.lemmas.Bool.{eqb-true, eqb-false, cases_lt}
 use Rattle.block.specs.declared.fault.Fault.{Fault}
@@ -128,7 +128,7 @@ module _ (block : List ℕ) (number used : ℕ) (long : length block ≡ 512) wh
   refused_some None k e = let z : ◌≡◌ {A = ℕ} 0 1 = cc in absurd (omega arith)
   refused_some (Some j) k e = let same : j ≡ k = cc in ap Some same
 
-  pub spare_law : FirstSpare block number used (spare_check block number used)
+  spare_law : FirstSpare block number used (spare_check block number used)
   spare_law =
       let at : (k : ℕ) → spare_check block number used ≡ Err (Fault.Spare number k) → Earliest k = λ k e. spare_earliest k (refused_some (spare_in block used) k e) in
       record {
@@ -137,3 +137,7 @@ module _ (block : List ℕ) (number used : ℕ) (long : length block ≡ 512) wh
         set = λ k e. (at k e).set;
         first = λ k e. (at k e).first;
       }
+
+  -- what a search for the spare bytes tells
+  pub spare_told : (o : Option ℕ) → o ≡ spare_in block used → FirstSpare block number used (no_spare number o)
+  spare_told o e = subst (λ v. FirstSpare block number used v) (sym (ap (no_spare number) e)) spare_law

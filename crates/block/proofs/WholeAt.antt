@@ -1,7 +1,7 @@
 -- What a card that has block k, or has it not, says of its length.
-use Rattle.std.proofs.Common.{◌≡◌, ℕ, ◌+◌, ◌*◌, ◌<◌, ◌≤◌, Bool, true, false, cond, leb, List, length, get_or, drop, Some, None, sym, refl, ◌∙◌, arith}
-use Rattle.std.proofs.lemmas.List.{get_or-take, get_or-drop}
-use Rattle.std.proofs.lemmas.Bool.{leb-true}
+use Rattle.std.proofs.Common.{◌≡◌, ℕ, ◌+◌, ◌-◌, ◌*◌, ◌<◌, ◌≤◌, Bool, true, false, cond, leb, List, length, get_or, take, drop, Some, None, sym, refl, ap, ◌∙◌, arith}
+use Rattle.std.proofs.lemmas.List.{get_or-take, get_or-drop, length-drop, take_all}
+use Rattle.std.proofs.lemmas.Bool.{leb-true, le-leb}
 use Rattle.block.specs.Blocks.{block_at, whole_at}
 
 module _ (card : List ℕ) (k : ℕ) where
@@ -19,3 +19,10 @@ module _ (card : List ℕ) (k : ℕ) where
 
   pub block_byte : (q : ℕ) → q < 512 → get_or (block_at card k) q 0 ≡ get_or card (k * 512 + q) 0
   block_byte q h = get_or-take 512 (drop (k * 512) card) q 0 h ∙ get_or-drop (k * 512) card q 0
+
+  -- the first 512 bytes of what stands from block k on
+  pub whole_read : (rest bs : List ℕ) → rest ≡ take (length card - k * 512) (drop (k * 512) card) → 512 ≤ length rest → bs ≡ take 512 rest → Some bs ≡ whole_at card k
+  whole_read rest bs r long b =
+      let all : rest ≡ drop (k * 512) card = r ∙ take_all (length card - k * 512) (drop (k * 512) card) (omega (arith, length-drop (k * 512) card)) in
+      let room : leb (k * 512 + 512) (length card) ≡ true = le-leb (k * 512 + 512) (length card) (omega (arith, length-drop (k * 512) card, ap length all)) in
+      ap Some (b ∙ ap (take 512) all) ∙ sym (ap (λ t. cond t (Some (block_at card k)) None) room)

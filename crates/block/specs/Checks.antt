@@ -1,5 +1,5 @@
 -- The checks of one block, each with the fault that it finds.
-use Rattle.std.specs.Prelude.{ℕ, ◌+◌, ◌*◌, cond, List, [], ◌∷◌, take, drop, Some, None, Ok, Err, Option, Result, ◌==◌, slice_index}
+use Rattle.std.specs.Prelude.{ℕ, ◌+◌, ◌*◌, Bool, not, cond, List, [], ◌∷◌, take, drop, Some, None, Ok, Err, Option, Result, ◌==◌, slice_index}
 use Rattle.block.specs.declared.fault.Fault.{Fault}
 use Rattle.block.specs.declared.fault.Fault.TheVariants.{CheckSum, Name, Spare}
 use Rattle.block.specs.Bytes.{le16}
@@ -12,6 +12,10 @@ Verdict = Result (Unit {0}) Fault
 abbrev pub and_then : Verdict → Verdict → Verdict
 and_then (Ok u) v = v
 and_then (Err f) v = Err f
+
+-- a byte is not 0
+abbrev pub is_set : ℕ → Bool
+is_set b = not (b == 0)
 
 -- the first byte of a list that is not 0, where the list's first byte is byte k
 abbrev pub first_set : ℕ → List ℕ → Option ℕ

@@ -1,5 +1,8 @@
 ghost use Rattle.std.specs.Prelude.{◌≡◌};
-ghost use Rattle.block.specs.Notices.{notice_of};
+ghost use Rattle.block.specs.Notices.{at_card, notice_of};
+
+use std::error::Error;
+use std::fmt;
 
 /// Who meets a refusal: the reader of a card, the reader of a table, or the plan.
 #[derive(Clone, Copy, PartialEq, Eq, Debug)]
@@ -35,24 +38,59 @@ pub enum Fault {
     Short { needed: usize },
 }
 
+/// A notice by the reader of a card.
+fn at_card(number: u8, first: usize, second: usize) -> Notice
+    ensures { result ≡ at_card number first second }
+{
+    Notice {
+        number,
+        layer: Layer::Card,
+        first,
+        second,
+    }
+}
+
 impl Fault {
     /// The fault's number, layer and places.
     pub fn notice(&self) -> Notice
         ensures { result ≡ notice_of self.now }
     {
-        let (number, first, second) = match *self {
-            Fault::Length { bytes } => (1, bytes, 0),
-            Fault::CheckSum { block } => (2, block as usize, 0),
-            Fault::Name { block } => (3, block as usize, 0),
-            Fault::Sizes { block } => (4, block as usize, 0),
-            Fault::Spare { block, byte } => (5, block as usize, byte as usize),
-            Fault::Short { needed } => (6, needed, 0),
-        };
-        Notice {
-            number,
-            layer: Layer::Card,
-            first,
-            second,
+        match *self {
+            Fault::Length { bytes } => at_card(1, bytes, 0),
+            Fault::CheckSum { block } => at_card(2, block as usize, 0),
+            Fault::Name { block } => at_card(3, block as usize, 0),
+            Fault::Sizes { block } => at_card(4, block as usize, 0),
+            Fault::Spare { block, byte } => at_card(5, block as usize, byte as usize),
+            Fault::Short { needed } => at_card(6, needed, 0),
         }
     }
 }
+
+impl fmt::Display for Layer {
+    fn fmt<W: fmt::Write>(&self, f: &mut fmt::Formatter<W>) -> fmt::Result {
+        f.write_str(match self {
+            Layer::Card => "card",
+            Layer::Table => "table",
+            Layer::Plan => "plan",
+        })
+    }
+}
+
+/// A notice as programs print it: its number and its places.
+impl fmt::Display for Notice {
+    fn fmt<W: fmt::Write>(&self, f: &mut fmt::Formatter<W>) -> fmt::Result {
+        write!(
+            f,
+            "refused {} at {} {}",
+            self.number, self.first, self.second
+        )
+    }
+}
+
+impl fmt::Display for Fault {
+    fn fmt<W: fmt::Write>(&self, f: &mut fmt::Formatter<W>) -> fmt::Result {
+        write!(f, "{}", self.notice())
+    }
+}
+
+impl Error for Fault {}

@@ -4,22 +4,12 @@ ghost use Rattle.block.specs.Blocks.{bytes_of, whole_at};
 
 use crate::block::Block;
 
-/// The number that the two bytes at `at` write, the low byte first.
-pub(crate) fn u16_at(bytes: &[u8], at: usize) -> u16
-    requires { at + 2 ≤ length bytes.now }
-    ensures { result ≡ le16 bytes.now at }
-{
-    u16::from_le_bytes([bytes[at], bytes[at + 1]])
-}
-
 /// The signed number that the four bytes at `at` write, the low byte first, if there are four.
 pub fn number_at(bytes: &[u8], at: usize) -> Option<i32>
     ensures { result ≡ number_at bytes.now at }
 {
-    if bytes.len() < 4 || at > bytes.len() - 4 {
-        return None;
-    }
-    Some(i32::from_le_bytes([bytes[at], bytes[at + 1], bytes[at + 2], bytes[at + 3]]))
+    let word = bytes.get(at..)?.first_chunk::<4>()?;
+    Some(i32::from_le_bytes(*word))
 }
 
 impl Block {
@@ -27,13 +17,8 @@ impl Block {
     pub fn read(card: &[u8], number: u16) -> Option<Block>
         ensures { bytes_of result ≡ whole_at card.now number }
     {
-        let at = number as usize * 512;
-        if card.len() < at + 512 {
-            return None;
-        }
-        let mut bytes = [0u8; 512];
-        bytes.copy_from_slice(&card[at..at + 512]);
-        Some(Block { bytes })
+        let bytes = card.get(number as usize * 512..)?.first_chunk::<512>()?;
+        Some(Block { bytes: *bytes })
     }
 
     /// The block's 512 bytes.
@@ -55,6 +40,14 @@ impl Block {
     pub fn number(&self) -> u16
         ensures { result ≡ le16 self.now.bytes 2 }
     {
-        u16_at(&self.bytes, 2)
+        self.u16_at(2)
+    }
+
+    /// The number that the two bytes at `at` write, the low byte first.
+    pub(crate) fn u16_at(&self, at: usize) -> u16
+        requires { at + 2 ≤ 512 }
+        ensures { result ≡ le16 self.now.bytes at }
+    {
+        u16::from_le_bytes([self.bytes[at], self.bytes[at + 1]])
     }
 }

@@ -1,5 +1,5 @@
 -- Where a section's numbers lie: number q at its spot.
-use Rattle.std.proofs.Common.{◌≡◌, ℕ, zero, suc, ◌+◌, ◌-◌, ◌*◌, ◌/◌, ◌%◌, ◌<◌, ◌≤◌, min, true, cond, leb, List, length, get_or, take, drop, ℤ, pos, Some, None, Option, sym, refl, ap, ◌∙◌, ⊎_elim, arith}
+use Rattle.std.proofs.Common.{◌≡◌, ℕ, zero, suc, ◌+◌, ◌-◌, ◌*◌, ◌/◌, ◌%◌, ◌<◌, ◌≤◌, min, true, cond, leb, List, length, get_or, take, drop, ℤ, pos, Some, None, Option, sym, refl, ap, ◌∙◌, subst, ⊎_elim, arith}
 use Rattle.std.specs.Option.{option_map}
 use Rattle.std.proofs.lemmas.List.{get_or-take, get_or-drop, get_or_append_left, get_or-append_right, length-take, length-drop}
 use Rattle.std.proofs.lemmas.List.FromFn.{get_or-map-range_with_len}
@@ -10,7 +10,7 @@ use Rattle.block.proofs.RoundTrip.{length_numbers}
 use Rattle.section.specs.declared.kind.Kind.{Kind}
 use Rattle.section.specs.declared.kind.Kind.TheVariants.{Head, Curvature, Rows, Costs, Bounds, Limits, Slip}
 use Rattle.section.specs.Layout.{blocks_for, count_of, first_of, blocks_in}
-use Rattle.section.specs.Sections.{kind_at, run_at, part_at, section_at, spot_of}
+use Rattle.section.specs.Sections.{Part, kind_at, run_at, part_at, section_at, spot_of}
 use Rattle.section.specs.Numbers.{numbers_from, numbers_in, Located}
 
 module _ (card : List ℕ) where
@@ -82,7 +82,7 @@ module _ (card : List ℕ) where
       let room : leb (at + 4) (length card) ≡ true = le-leb (at + 4) (length card) (omega arith) in
       ap (λ t. cond t (Some (num card at)) None) room ∙ ap Some (sym (section_at_lem n m kind q h))
 
-  pub located : (first n m : ℕ) → Located card first n m (section_at card first n m)
+  located : (first n m : ℕ) → Located card first n m (section_at card first n m)
   located first n m = of_kind (kind_at card first) where
     of_kind : (o : Option Kind) → Located card first n m (option_map (part_at card first n m) o)
     of_kind None = tt
@@ -95,3 +95,6 @@ module _ (card : List ℕ) where
         ap (λ t. cond t (Some (num (run_at card first b) (spot_of q))) None) there
         ∙ ap Some (num_of (b * 512) (first * 512) (spot_of q) (first * 512 + spot_of q) spot refl
         ∙ (ap (λ f. num card (f * 512 + spot_of q)) e ∙ sym (section_at_lem n m kind q h)))
+
+  pub located_at : (first n m : ℕ) (o : Option Part) → o ≡ section_at card first n m → Located card first n m o
+  located_at first n m o e = subst (λ p. Located card first n m p) (sym e) (located first n m)

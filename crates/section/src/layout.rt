@@ -4,15 +4,6 @@ ghost use Rattle.section.specs.Layout.{blocks_for, count_of, first_of, blocks_in
 use crate::kind::Kind;
 use crate::sizes::Sizes;
 
-/// How many blocks hold `count` numbers.
-pub(crate) fn blocks_for(count: u16) -> u16
-    requires { count ≤ 512 }
-    ensures value { result ≡ blocks_for count }
-    ensures bound { result ≤ 5 }
-{
-    (count + 125) / 126
-}
-
 /// How many places a table of `rows` rows has.
 fn places(rows: u16, n: u16) -> u16
     requires { (rows ≤ 32) × (n ≤ 16) }
@@ -27,7 +18,7 @@ impl Sizes {
     pub fn new(ropes: u16, rows: u16) -> Option<Sizes>
         ensures { Sized result ropes rows }
     {
-        if 1 <= ropes && ropes <= 16 && rows <= 32 {
+        if (1..=16).contains(&ropes) && rows <= 32 {
             Some(Sizes { ropes, rows })
         } else {
             None
@@ -65,24 +56,32 @@ impl Sizes {
         }
     }
 
+    /// How many blocks hold a section's numbers.
+    pub(crate) fn blocks(&self, kind: Kind) -> u16
+        ensures value { result ≡ blocks_for (count_of kind self.now.ropes self.now.rows) }
+        ensures bound { result ≤ 5 }
+    {
+        self.count(kind).div_ceil(126)
+    }
+
     /// The number of a section's first block.
     pub fn first(&self, kind: Kind) -> u16
         ensures value { result ≡ first_of kind self.now.ropes self.now.rows }
         ensures bound { result ≤ 26 }
     {
-        let square = blocks_for(self.count(Kind::Curvature));
-        let rows = blocks_for(self.count(Kind::Rows));
-        let costs = blocks_for(self.count(Kind::Costs));
-        let bounds = blocks_for(self.count(Kind::Bounds));
-        let limits = blocks_for(self.count(Kind::Limits));
+        let rows = 1 + self.blocks(Kind::Curvature);
+        let costs = rows + self.blocks(Kind::Rows);
+        let bounds = costs + self.blocks(Kind::Costs);
+        let limits = bounds + self.blocks(Kind::Bounds);
+        let slip = limits + self.blocks(Kind::Limits);
         match kind {
             Kind::Head => 0,
             Kind::Curvature => 1,
-            Kind::Rows => 1 + square,
-            Kind::Costs => 1 + square + rows,
-            Kind::Bounds => 1 + square + rows + costs,
-            Kind::Limits => 1 + square + rows + costs + bounds,
-            Kind::Slip => 1 + square + rows + costs + bounds + limits,
+            Kind::Rows => rows,
+            Kind::Costs => costs,
+            Kind::Bounds => bounds,
+            Kind::Limits => limits,
+            Kind::Slip => slip,
         }
     }
 
@@ -90,7 +89,7 @@ impl Sizes {
     pub fn card_bytes(&self) -> usize
         ensures { result ≡ blocks_in self.now.ropes self.now.rows * 512 }
     {
-        let blocks = self.first(Kind::Slip) + blocks_for(self.count(Kind::Slip));
+        let blocks = self.first(Kind::Slip) + self.blocks(Kind::Slip);
         blocks as usize * 512
     }
 }

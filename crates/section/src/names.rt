@@ -1,14 +1,28 @@
 ghost use Rattle.std.specs.Prelude.{◌≡◌};
+ghost use Rattle.std.specs.Result.{result_ok};
 ghost use Rattle.section.specs.Kinds.{letter_of, kind_of, Names};
 
 use crate::kind::Kind;
+use std::error::Error;
+use std::fmt;
 
-impl Kind {
-    /// The letter of the section's blocks.
-    pub fn letter(self) -> u8
-        ensures { result ≡ letter_of self }
-    {
-        match self {
+/// A letter that names no section.
+#[derive(Clone, Copy, PartialEq, Eq, Debug)]
+pub struct UnknownKind(pub char);
+
+impl fmt::Display for UnknownKind {
+    fn fmt<W: fmt::Write>(&self, f: &mut fmt::Formatter<W>) -> fmt::Result {
+        write!(f, "no section has letter {}", self.0)
+    }
+}
+
+impl Error for UnknownKind {}
+
+impl From<Kind> for u8 {
+    ghost from_gives = { λ kind letter. letter ≡ letter_of kind };
+
+    fn from(kind: Kind) -> u8 {
+        match kind {
             Kind::Head => b'H',
             Kind::Curvature => b'G',
             Kind::Rows => b'A',
@@ -18,21 +32,40 @@ impl Kind {
             Kind::Slip => b'L',
         }
     }
+}
+
+impl TryFrom<char> for Kind {
+    type Error = UnknownKind;
+
+    ghost try_from_gives = { λ letter named. result_ok named ≡ kind_of letter };
+
+    fn try_from(letter: char) -> Result<Kind, UnknownKind> {
+        match letter {
+            'H' => Ok(Kind::Head),
+            'G' => Ok(Kind::Curvature),
+            'A' => Ok(Kind::Rows),
+            'C' => Ok(Kind::Costs),
+            'B' => Ok(Kind::Bounds),
+            'R' => Ok(Kind::Limits),
+            'L' => Ok(Kind::Slip),
+            _ => Err(UnknownKind(letter)),
+        }
+    }
+}
+
+impl Kind {
+    /// The letter of the section's blocks.
+    pub fn letter(self) -> u8
+        ensures { result ≡ letter_of self }
+    {
+        u8::from(self)
+    }
 
     /// The section that a block's letter names, if it names one.
     pub fn named(letter: char) -> Option<Kind>
         ensures value { result ≡ kind_of letter }
         ensures names { Names letter result }
     {
-        match letter {
-            'H' => Some(Kind::Head),
-            'G' => Some(Kind::Curvature),
-            'A' => Some(Kind::Rows),
-            'C' => Some(Kind::Costs),
-            'B' => Some(Kind::Bounds),
-            'R' => Some(Kind::Limits),
-            'L' => Some(Kind::Slip),
-            _ => None,
-        }
+        Kind::try_from(letter).ok()
     }
 }

@@ -4,7 +4,6 @@ ghost use Rattle.section.specs.Sections.{part_of, kind_at, run_at, section_at, s
 ghost use Rattle.section.specs.Numbers.{Located};
 
 use crate::kind::Kind;
-use crate::layout::blocks_for;
 use crate::section::Section;
 use crate::sizes::Sizes;
 use block::{Block, number_at};
@@ -22,10 +21,7 @@ pub fn spot_of(q: u16) -> usize
 fn kind_at(card: &[u8], first: u16) -> Option<Kind>
     ensures { result ≡ kind_at card.now first }
 {
-    match Block::read(card, first) {
-        Some(block) => Kind::named(block.letter()),
-        None => None,
-    }
+    Kind::named(Block::read(card, first)?.letter())
 }
 
 /// The blocks from `first` on, or what the card has of them.
@@ -52,69 +48,51 @@ impl<'a> Section<'a> {
         }
     }
 
-    fn find(card: &'a [u8], first: u16, sizes: &Sizes) -> Option<Section<'a>>
-        ensures { option_map part_of result ≡ section_at card.now first sizes.now.ropes sizes.now.rows }
-    {
-        let kind = kind_at(card, first)?;
-        Some(Section::new(
-            kind,
-            run_of(card, first, blocks_for(sizes.count(kind))),
-            first,
-        ))
-    }
-
     /// The section that starts at block `first` of a card of these sizes, named by that block's letter.
     /// Nothing where the card ends before that block does, or where the letter names no section.
     pub fn at(card: &'a [u8], first: u16, sizes: &Sizes) -> Option<Section<'a>>
         ensures value { option_map part_of result ≡ section_at card.now first sizes.now.ropes sizes.now.rows }
         ensures located { Located card.now first sizes.now.ropes sizes.now.rows (option_map part_of result) }
     {
-        Section::find(card, first, sizes)
+        let kind = kind_at(card, first)?;
+        let bytes = run_of(card, first, sizes.blocks(kind));
+        Some(Section::new(kind, bytes, first))
+    }
+
+    /// What the section is, its bytes and the number of its first block.
+    fn parts(&self) -> (Kind, &'a [u8], u16)
+        ensures { part_of self.now ≡ record { kind = result.0; bytes = result.1.now; first = result.2 } }
+    {
+        match *self {
+            Section::Head { bytes, first } => (Kind::Head, bytes, first),
+            Section::Curvature { bytes, first } => (Kind::Curvature, bytes, first),
+            Section::Rows { bytes, first } => (Kind::Rows, bytes, first),
+            Section::Costs { bytes, first } => (Kind::Costs, bytes, first),
+            Section::Bounds { bytes, first } => (Kind::Bounds, bytes, first),
+            Section::Limits { bytes, first } => (Kind::Limits, bytes, first),
+            Section::Slip { bytes, first } => (Kind::Slip, bytes, first),
+        }
     }
 
     /// What the section is.
     pub fn kind(&self) -> Kind
         ensures { result ≡ (part_of self.now).kind }
     {
-        match self {
-            Section::Head { .. } => Kind::Head,
-            Section::Curvature { .. } => Kind::Curvature,
-            Section::Rows { .. } => Kind::Rows,
-            Section::Costs { .. } => Kind::Costs,
-            Section::Bounds { .. } => Kind::Bounds,
-            Section::Limits { .. } => Kind::Limits,
-            Section::Slip { .. } => Kind::Slip,
-        }
+        self.parts().0
     }
 
     /// The bytes of the section's blocks.
     pub fn bytes(&self) -> &'a [u8]
         ensures { result.now ≡ (part_of self.now).bytes }
     {
-        match *self {
-            Section::Head { bytes, .. }
-            | Section::Curvature { bytes, .. }
-            | Section::Rows { bytes, .. }
-            | Section::Costs { bytes, .. }
-            | Section::Bounds { bytes, .. }
-            | Section::Limits { bytes, .. }
-            | Section::Slip { bytes, .. } => bytes,
-        }
+        self.parts().1
     }
 
     /// The number of the section's first block.
     pub fn first(&self) -> u16
         ensures { result ≡ (part_of self.now).first }
     {
-        match *self {
-            Section::Head { first, .. }
-            | Section::Curvature { first, .. }
-            | Section::Rows { first, .. }
-            | Section::Costs { first, .. }
-            | Section::Bounds { first, .. }
-            | Section::Limits { first, .. }
-            | Section::Slip { first, .. } => first,
-        }
+        self.parts().2
     }
 
     /// Number `q` of the section, if its bytes reach so far.

@@ -4,11 +4,11 @@ use Rattle.block.proofs.WholeAt.{whole_some, block_byte}
 use Rattle.section.specs.Kinds.{kind_of}
 use Rattle.section.proofs.sections.kind_at.Goals as goal
 
-pub returns-in-Some : goal.returns-in-Some
-returns-in-Some c =
+pub returns : goal.returns
+returns c =
     let card = c.args.card.now in
     let at : ℕ = c.args.first * 512 in
-    let whole = whole_some card c.args.first c.in-Some.block.bytes c.in-Some.ensures in
+    let whole = whole_some card c.args.first c.in_ok-read.field-0.bytes c.in_ok-read.ensures in
     let room : leb (at + 512) (length card) ≡ true = le-leb (at + 512) (length card) whole.0 in
     let start : at + 0 ≡ at = omega arith in
     let letter : c.letter.result ≡ get_or card at 0

@@ -1,14 +1,7 @@
-use Rattle.std.proofs.Common.{Option, sym, subst}
-use Rattle.section.specs.Sections.{Part}
-use Rattle.section.specs.Numbers.{Located}
-use Rattle.section.proofs.Spots.{located}
+use Rattle.std.proofs.Common.{Some, rules}
+use Rattle.section.specs.Sections.{part_of}
+use Rattle.section.proofs.Spots.{located_at}
 use Rattle.section.proofs.section.Section.at.Goals as goal
 
-pub returns : goal.returns
-returns c =
-    let n = c.args.sizes.now.ropes in
-    let m = c.args.sizes.now.rows in
-    record {
-      value = c.find.ensures;
-      located = subst (λ (o : Option Part). Located c.args.card.now c.args.first n m o) (sym c.find.ensures) (located c.args.card.now c.args.first n m);
-    }
+pub returns-clause-located : goal.returns-clause-located
+returns-clause-located c = located_at c.args.card.now c.args.first c.args.sizes.now.ropes c.args.sizes.now.rows (Some (part_of c.new.result)) (search rules)
