@@ -4,8 +4,7 @@
 #![tactic(auto)]
 
 mod checks;
-mod digits;
-mod puts;
+mod page;
 mod unwritten;
 mod writes;
 
