@@ -8,5 +8,6 @@ mod page;
 mod unwritten;
 mod writes;
 
+pub use page::ROOM;
 pub use unwritten::Unwritten;
 pub use writes::{write_refusal, write_sheet};

@@ -7,7 +7,7 @@ use arrayvec::ArrayString;
 use itoa::{Buffer, Integer};
 
 /// Room for the longest text.
-pub(crate) const ROOM: usize = 320;
+pub const ROOM: usize = 320;
 
 #[derive(Drop)]
 pub(crate) struct Page {
