@@ -1,7 +1,5 @@
-mod Putting
-mod Spelling
 mod Spreading
-mod Lining
 mod Checking
 mod Bounding
+mod Adding
 mod Legible

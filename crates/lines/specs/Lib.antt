@@ -1,4 +1,3 @@
 pub mod Texts
-pub mod Writing
 pub mod Answers
 pub mod Reading

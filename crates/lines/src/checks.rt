@@ -2,16 +2,9 @@
 ghost use Rattle.std.specs.Prelude.{◌≡◌, ◌≤◌, length, None, OnOk};
 ghost use Rattle.lines.specs.Answers.{room_check, first_far, point_check};
 
+use crate::page::ROOM;
 use crate::unwritten::Unwritten;
-
-/// Room for the longest text.
-const ROOM: usize = 320;
-
-/// Ropes of a job.
-const MOST_NUMBERS: usize = 16;
-
-/// Bounds of a rope.
-const PULL_LIMIT: u64 = 32_768;
+use terms::{MOST_ROPES, PULL_LIMIT, first_beyond};
 
 pub(crate) fn check_room(bytes: usize) -> Result<(), Unwritten>
     ensures value { result ≡ room_check bytes }
@@ -29,15 +22,13 @@ pub(crate) fn check_point(point: &[i64]) -> Result<(), Unwritten>
     ensures few { OnOk result (length point.now ≤ 16) }
     ensures near { OnOk result (first_far point.now ≡ None) }
 {
-    if point.len() > MOST_NUMBERS {
+    if point.len() > MOST_ROPES {
         return Err(Unwritten::Many {
             numbers: point.len(),
         });
     }
-    for i in 0..point.len() {
-        if point[i].unsigned_abs() > PULL_LIMIT {
-            return Err(Unwritten::Far { place: i });
-        }
+    match first_beyond(PULL_LIMIT, point) {
+        Some(place) => Err(Unwritten::Far { place }),
+        None => Ok(()),
     }
-    Ok(())
 }

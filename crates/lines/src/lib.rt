@@ -4,10 +4,10 @@
 #![tactic(auto)]
 
 mod checks;
-mod digits;
-mod puts;
+mod page;
 mod unwritten;
 mod writes;
 
+pub use page::ROOM;
 pub use unwritten::Unwritten;
 pub use writes::{write_refusal, write_sheet};

@@ -1,111 +1,97 @@
 //! The text of a sheet and of a refusal.
 ghost use Rattle.std.specs.Prelude.{◌≡◌, ◌+◌, ◌≤◌, [], ◌∷◌, ◌++◌, length, None};
-ghost use Rattle.lines.specs.Texts.{exchange_word, walk_word, exchange_line, moves_line, floor_line, point_lines, found_text, sheet_text, refusal_text};
-ghost use Rattle.lines.specs.Writing.{Put};
+ghost use Rattle.lines.specs.Texts.{exchange_word, walk_word, floor_line, point_lines, found_text, sheet_text, refusal_text};
 ghost use Rattle.lines.specs.Answers.{first_far, room_check, sheet_check, answered, list_after};
 ghost use Rattle.lines.specs.Reading.{Legible};
 
 use crate::checks::{check_point, check_room};
-use crate::puts::{put_count, put_entry, put_numbers, put_word};
+use crate::page::Page;
 use crate::unwritten::Unwritten;
 use calls::{Found, Report, Shown};
 
 /// How the exchange's line ends.
-fn exchange_ending(end: exchange::End) -> &'static [u8]
-    ensures { result.now ≡ 32 ∷ (exchange_word end ++ (10 ∷ [])) }
+fn exchange_ending(end: exchange::End) -> &'static str
+    ensures word { result.now ≡ 32 ∷ (exchange_word end ++ (10 ∷ [])) }
+    ensures short { length result.now ≤ 7 }
 {
     match end {
-        exchange::End::Done => b" done\n",
-        exchange::End::Full => b" full\n",
-        exchange::End::Stuck => b" stuck\n",
-        exchange::End::Spent => b" spent\n",
+        exchange::End::Done => " done\n",
+        exchange::End::Full => " full\n",
+        exchange::End::Stuck => " stuck\n",
+        exchange::End::Spent => " spent\n",
     }
 }
 
 /// How the walk's line ends.
-fn walk_ending(end: walk::End) -> &'static [u8]
-    ensures { result.now ≡ 32 ∷ (walk_word end ++ (10 ∷ [])) }
+fn walk_ending(end: walk::End) -> &'static str
+    ensures word { result.now ≡ 32 ∷ (walk_word end ++ (10 ∷ [])) }
+    ensures short { length result.now ≤ 9 }
 {
     match end {
-        walk::End::Settled => b" settled\n",
-        walk::End::Spent => b" spent\n",
+        walk::End::Settled => " settled\n",
+        walk::End::Spent => " spent\n",
     }
 }
 
-/// Puts the line of the exchange.
-fn put_exchange(out: &mut [u8], at: usize, steps: usize, end: exchange::End) -> usize
-    requires { at + 36 ≤ length out.old }
-    ensures put { Put out.old at (exchange_line steps end) out.new result }
-    ensures short { result ≤ at + 36 }
+/// Adds a first line and the floor's line.
+fn add_missing(page: &mut Page, first: &str, floor: i128)
+    requires { length page.old.text.bytes + length first.now + 47 ≤ 320 }
+    ensures { page.new.text.bytes ≡ page.old.text.bytes ++ (first.now ++ floor_line floor) }
 {
-    let ending = exchange_ending(end);
-    put_count(out, at, b"exchange ", steps as u64, ending)
+    page.word(first);
+    page.entry("floor ", floor);
 }
 
-/// Puts the line of the walk.
-fn put_moves(out: &mut [u8], at: usize, moves: u32, end: walk::End) -> usize
-    requires { at + 25 ≤ length out.old }
-    ensures put { Put out.old at (moves_line moves end) out.new result }
-    ensures short { result ≤ at + 25 }
-{
-    let ending = walk_ending(end);
-    put_count(out, at, b"moves ", u64::from(moves), ending)
-}
-
-/// Puts a first line and the floor's line.
-fn put_missing(out: &mut [u8], at: usize, first: &[u8], floor: i128) -> usize
-    requires { at + length first.now + 47 ≤ length out.old }
-    ensures { Put out.old at (first.now ++ floor_line floor) out.new result }
-{
-    let next = put_word(out, at, first);
-    put_entry(out, next, b"floor ", floor)
-}
-
-/// Puts the lines of a point.
-fn put_point(out: &mut [u8], at: usize, cost: i64, floor: i128, gap: i128, point: &[i64]) -> usize
-    requires room { at + 256 ≤ length out.old }
+/// Adds the lines of a point.
+fn add_point(page: &mut Page, cost: i64, floor: i128, gap: i128, point: &[i64])
+    requires room { length page.old.text.bytes + 240 ≤ 320 }
     requires few { length point.now ≤ 16 }
     requires near { first_far point.now ≡ None }
-    ensures { Put out.old at (point_lines cost floor gap point.now) out.new result }
+    ensures { page.new.text.bytes ≡ page.old.text.bytes ++ point_lines cost floor gap point.now }
 {
-    let next = put_entry(out, at, b"cost ", i128::from(cost));
-    let next = put_entry(out, next, b"floor ", floor);
-    let next = put_entry(out, next, b"gap ", gap);
-    let next = put_word(out, next, b"point");
-    put_numbers(out, next, point)
+    page.entry("cost ", cost);
+    page.entry("floor ", floor);
+    page.entry("gap ", gap);
+    page.word("point");
+    page.numbers(point);
 }
 
-/// Puts what was found.
-fn put_found(out: &mut [u8], at: usize, shown: &Shown, point: &[i64]) -> usize
-    requires room { at + 256 ≤ length out.old }
+/// Adds what was found.
+fn add_found(page: &mut Page, shown: &Shown, point: &[i64])
+    requires room { length page.old.text.bytes + 240 ≤ 320 }
     requires few { length point.now ≤ 16 }
     requires near { first_far point.now ≡ None }
-    ensures { Put out.old at (found_text shown.now.floor point.now shown.now.found) out.new result }
+    ensures { page.new.text.bytes
+        ≡ page.old.text.bytes ++ found_text shown.now.floor point.now shown.now.found }
 {
     match shown.found {
-        Found::NoneExists => put_missing(out, at, b"none exists\n", shown.floor),
-        Found::Point { cost, gap } => put_point(out, at, cost, shown.floor, gap, point),
-        Found::NoPoint => put_missing(out, at, b"no point\n", shown.floor),
+        Found::NoneExists => add_missing(page, "none exists\n", shown.floor),
+        Found::Point { cost, gap } => add_point(page, cost, shown.floor, gap, point),
+        Found::NoPoint => add_missing(page, "no point\n", shown.floor),
     }
 }
 
-fn put_sheet(out: &mut [u8], report: &Report, shown: &Shown, point: &[i64]) -> usize
-    requires room { 320 ≤ length out.old }
+fn sheet(report: &Report, shown: &Shown, point: &[i64]) -> Page
     requires few { length point.now ≤ 16 }
     requires near { first_far point.now ≡ None }
-    ensures { Put out.old 0 (sheet_text report.now shown.now point.now) out.new result }
+    ensures { result.text.bytes ≡ sheet_text report.now shown.now point.now }
 {
-    let next = put_exchange(out, 0, report.steps, report.exchange);
-    let next = put_moves(out, next, report.moves, report.walk);
-    put_found(out, next, shown, point)
+    let mut page = Page::new();
+    page.labelled("exchange ", report.steps);
+    page.word(exchange_ending(report.exchange));
+    page.labelled("moves ", report.moves);
+    page.word(walk_ending(report.walk));
+    add_found(&mut page, shown, point);
+    page
 }
 
-fn put_refusal(out: &mut [u8], number: u8, place: usize) -> usize
-    requires { 320 ≤ length out.old }
-    ensures { Put out.old 0 (refusal_text number place) out.new result }
+fn refusal(number: u8, place: usize) -> Page
+    ensures { result.text.bytes ≡ refusal_text number place }
 {
-    let next = put_count(out, 0, b"refused ", u64::from(number), b" at ");
-    put_count(out, next, b"", place as u64, b"\n")
+    let mut page = Page::new();
+    page.labelled("refused ", number);
+    page.entry(" at ", place);
+    page
 }
 
 /// Writes what a solve did and what a plan shows at the start of a list, with the numbers of the point where one was found, and answers how many
@@ -125,7 +111,7 @@ pub fn write_sheet(
 {
     check_room(out.len())?;
     check_point(point)?;
-    Ok(put_sheet(out, report, shown, point))
+    Ok(sheet(report, shown, point).copy_to(out))
 }
 
 /// Writes the line of a refusal at the start of a list, and answers how many bytes it has. The bytes past it stay.
@@ -136,5 +122,5 @@ pub fn write_refusal(out: &mut [u8], number: u8, place: usize) -> Result<usize, 
     ensures legible { Legible }
 {
     check_room(out.len())?;
-    Ok(put_refusal(out, number, place))
+    Ok(refusal(number, place).copy_to(out))
 }

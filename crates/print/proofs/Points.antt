@@ -1,5 +1,5 @@
 -- The point that is shown has few numbers, and none too far.
-use Rattle.std.proofs.Common.{◌≡◌, ℕ, zero, suc, ◌-◌, ◌≤◌, Bool, true, false, cond, eqb, leb, List, length, take, replicate, ℤ, pos, Some, None, Ok, Err, vec_items, vec_len, sym, refl, ap, ◌∙◌, arith}
+use Rattle.std.proofs.Common.{◌≡◌, ℕ, zero, suc, ◌≤◌, Bool, true, false, cond, eqb, leb, List, length, take, replicate, ℤ, pos, Some, None, Ok, Err, vec_items, vec_len, sym, refl, ap, ◌∙◌, arith}
 use Rattle.std.proofs.lemmas.List.{length-replicate, get_or-replicate, take-replicate}
 use Rattle.std.proofs.lemmas.Bool.{and_parts, and_from, eq-eqb, eqb-true, le-leb}
 use Rattle.duality.specs.Lists.{places}
@@ -59,13 +59,18 @@ pub text_is : (r : Report) (s : State) (v : Shown) (z : List ℤ) → v ≡ show
 text_is r s v z ev ez = ap (λ (x : Shown). sheet_text r x z) ev ∙ ap (sheet_text r (shown s)) ez
 
 -- zeros, as many as there are ropes, at the start of a list of sixteen
-pub zeros_of : (m n : ℕ) → m ≤ 16 → m ≡ n → take (m - 0) (replicate 16 (pos 0)) ≡ replicate n (pos 0)
-zeros_of m n few e =
-    let cut : m - 0 ≡ m = omega arith in
-    ap (λ (k : ℕ). take k (replicate 16 (pos 0))) cut ∙ take-replicate m 16 (pos 0) few ∙ ap (λ (k : ℕ). replicate k (pos 0)) e
+pub zeros_of : (m n : ℕ) → m ≤ 16 → m ≡ n → take m (replicate 16 (pos 0)) ≡ replicate n (pos 0)
+zeros_of m n few e = take-replicate m 16 (pos 0) few ∙ ap (λ (k : ℕ). replicate k (pos 0)) e
 
 -- a list of zeros has the length that is asked for
 pub shows_zeros : (s : State) → Ok (shown s) ≡ show_answer s (length (replicate s.numbers.ropes (pos 0)))
 shows_zeros s =
     let n = s.numbers.ropes in
     sym (ap (λ b. unless (cond b None (Some (OfferLength n))) (shown s)) (eq-eqb (length (replicate n (pos 0))) n (length-replicate n (pos 0))))
+
+-- what is shown in a list of zeros
+pub seen_is : (s : State) (list : List ℤ) (v : Shown) → list ≡ replicate s.numbers.ropes (pos 0) → Ok v ≡ show_answer s (length list) → v ≡ shown s
+seen_is s list v e a =
+    let right = shows_zeros s in
+    let same = ap (λ l. show_answer s (length l)) e in
+    cc

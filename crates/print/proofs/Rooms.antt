@@ -1,15 +1,17 @@
 -- A text in a list with room for it or without.
-use Rattle.std.proofs.Common.{◌≡◌, ℕ, ◌≤◌, Bool, true, false, cond, leb, List, length, drop, ℤ, IfOk, IfErr, Ok, Err, Result, sym, refl, ap, ◌∙◌, subst, arith}
+use Rattle.std.proofs.Common.{◌≡◌, ℕ, ◌≤◌, Bool, true, false, cond, leb, List, length, drop, ℤ, IfOk, Ok, Err, Result, sym, refl, ap, ◌∙◌, subst, arith}
 use Rattle.std.proofs.lemmas.List.{length-append, length-drop}
 use Rattle.opening.specs.declared.refusal.Refusal.{Refusal}
 use Rattle.opening.specs.declared.refusal.Refusal.TheVariants.{OfferLength}
 use Rattle.lines.specs.declared.unwritten.Unwritten.{Unwritten}
 use Rattle.lines.specs.declared.unwritten.Unwritten.TheVariants.{Short}
 use Rattle.lines.specs.Answers.{Check, room_check, point_check, or_else, sheet_check, answered, list_after}
-use Rattle.print.specs.Printing.{print_answer, print_after, room_refused}
+use Rattle.print.specs.Printing.{print_answer, print_after}
 
-abbrev OnlyShort : Result ℕ Unwritten → Type 0
-OnlyShort r = IfErr r (λ e. e ≡ Short 320)
+-- a text that has no room, as a plan refuses it
+abbrev pub room_refused : Result ℕ Unwritten → Result ℕ Refusal
+room_refused (Ok bytes) = Ok bytes
+room_refused (Err e) = Err (OfferLength 320)
 
 -- where the point is right, only the room is refused
 pub room_only : (n : ℕ) (p : Check) → p ≡ Ok tt → or_else (room_check n) p ≡ room_check n
@@ -17,13 +19,6 @@ room_only n p e = by (leb 320 n)
   where
     by : (b : Bool) → or_else (cond b (Ok tt) (Err (Short 320))) p ≡ cond b (Ok tt) (Err (Short 320))
     by true = e
-    by false = refl
-
-pub only_short : (n : ℕ) (text : List ℕ) (r : Result ℕ Unwritten) → r ≡ answered (room_check n) text → OnlyShort r
-only_short n text r e = subst OnlyShort (sym e) (by (leb 320 n))
-  where
-    by : (b : Bool) → OnlyShort (answered (cond b (Ok tt) (Err (Short 320))) text)
-    by true = tt
     by false = refl
 
 pub printed_answer : (out text : List ℕ) (r : Result ℕ Unwritten) (t : Result ℕ Refusal) → t ≡ room_refused r → r ≡ answered (room_check (length out)) text → t ≡ print_answer text out

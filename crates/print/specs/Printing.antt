@@ -6,7 +6,6 @@ use Rattle.opening.specs.Refusals.{notice_of}
 use Rattle.calls.specs.declared.answers.Report.{Report}
 use Rattle.calls.specs.States.{State}
 use Rattle.calls.specs.Steps.{shown, shown_in}
-use Rattle.lines.specs.declared.unwritten.Unwritten.{Unwritten}
 use Rattle.lines.specs.Answers.{room_check, list_after}
 use Rattle.lines.specs.Texts.{sheet_text, refusal_text}
 
@@ -29,8 +28,3 @@ print_answer text out = cond (nat_le 320 (length out)) (Ok (length text)) (Err (
 -- the text and then the bytes that stood past it, or the list as it stood
 abbrev pub print_after : List ℕ → List ℕ → List ℕ
 print_after text out = list_after (room_check (length out)) text out
-
--- a text that has no room, as a plan refuses it
-abbrev pub room_refused : Result ℕ Unwritten → Result ℕ Refusal
-room_refused (Ok bytes) = Ok bytes
-room_refused (Err e) = Err (OfferLength 320)

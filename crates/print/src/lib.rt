@@ -3,7 +3,6 @@
 
 mod plans;
 mod refusals;
-mod room;
 
 pub use plans::print_plan;
 pub use refusals::print_refusal;

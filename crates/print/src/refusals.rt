@@ -2,8 +2,7 @@
 ghost use Rattle.std.specs.Prelude.{◌≡◌, ◌≤◌, length, IfOk};
 ghost use Rattle.print.specs.Printing.{refused_text, print_answer, print_after};
 
-use crate::room::refuse_short;
-use lines::write_refusal;
+use lines::{ROOM, write_refusal};
 use opening::Refusal;
 
 /// Writes a refusal's number and first place at the start of a list, as one line, and answers how many bytes it has. The bytes past it stay.
@@ -14,5 +13,7 @@ pub fn print_refusal(refusal: &Refusal, out: &mut [u8]) -> Result<usize, Refusal
     ensures fits { IfOk result (λ n. n ≤ length out.old) }
 {
     let notice = refusal.notice();
-    refuse_short(write_refusal(out, notice.number, notice.first))
+    write_refusal(out, notice.number, notice.first).map_err(|_| Refusal::OfferLength {
+        needed: ROOM,
+    })
 }
