@@ -1,0 +1,59 @@
+//! Tests of numbers and of whole lists.
+ghost use Rattle.std.specs.Prelude.{◌≡◌, ◌&&◌, ◌==◌, length};
+ghost use Rattle.duality.specs.Lists.{places};
+ghost use Rattle.duality.specs.Tests.{first_not, within as is_within, between as is_between, all_within, in_order, many_within};
+
+/// Whether a number lies within ±limit.
+pub fn within(limit: u64, x: i64) -> bool
+    ensures { result ≡ is_within limit x }
+{
+    x.unsigned_abs() <= limit
+}
+
+/// Whether a number lies from low to high.
+pub fn between(low: i64, high: i64, x: i64) -> bool
+    ensures { result ≡ is_between low high x }
+{
+    low <= x && x <= high
+}
+
+/// The place of the first number beyond ±limit.
+pub fn first_beyond(limit: u64, xs: &[i64]) -> Option<usize>
+    ensures { result ≡ first_not (λ k. is_within limit (places xs.now k)) (length xs.now) }
+{
+    for (i, x) in xs.iter().enumerate() {
+        if !within(limit, *x) {
+            return Some(i);
+        }
+    }
+    None
+}
+
+/// Whether each number lies within ±limit.
+pub fn all_within(limit: u64, xs: &[i64]) -> bool
+    ensures { result ≡ all_within limit xs.now }
+{
+    first_beyond(limit, xs).is_none()
+}
+
+/// Whether a list has n numbers, each within ±limit.
+pub fn many_within(n: usize, limit: u64, xs: &[i64]) -> bool
+    ensures { result ≡ many_within n limit xs.now }
+{
+    xs.len() == n && all_within(limit, xs)
+}
+
+/// Whether there are as many lower numbers as upper ones, and none lies above the upper one at its place.
+pub fn in_order(lows: &[i64], highs: &[i64]) -> bool
+    ensures { result ≡ (length lows.now == length highs.now && in_order lows.now highs.now) }
+{
+    if lows.len() != highs.len() {
+        return false;
+    }
+    for (low, high) in lows.iter().zip(highs) {
+        if low > high {
+            return false;
+        }
+    }
+    true
+}
