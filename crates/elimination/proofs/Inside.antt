@@ -1,10 +1,11 @@
--- Every unknown that is found lies strictly inside the bound, and is rounded to a number within it.
-use Rattle.std.proofs.Common.{◌≡◌, ℕ, zero, suc, ◌+◌, ◌*◌, ◌^◌, ◌<◌, ◌≤◌, Bool, true, false, cond, T, List, [], ◌∷◌, length, ℤ, nat_abs, Some, None, Option, sym, refl, ap, ◌∙◌, subst, true≢false, div-lt_iff_lt-mul, arith, ltb→lt}
+-- Every line has its unknown, which lies strictly inside the bound and is rounded to a number within it.
+use Rattle.std.proofs.Common.{◌≡◌, ℕ, zero, suc, ◌+◌, ◌*◌, ◌^◌, ◌<◌, ◌≤◌, Bool, true, false, cond, T, List, [], ◌∷◌, map, length, get_or, take, drop, set, ℤ, nat_abs, Some, None, Option, sym, refl, ap, ◌∙◌, subst, true≢false, div-lt_iff_lt-mul, arith, ltb→lt}
 use lib.Ieee.{Float, nan, inf, fin, binary64, up, down, round, lt, to_signed}
 use lib.Ieee.Back.{round_whole}
 use lib.Ieee.Fits.{down_pos}
 use Rattle.std.specs.Float.{round_with, float_with_sign}
-use Rattle.elimination.specs.Lines.{at, inside, unknown_of, one_more, unknowns_of, and_then, columns_done, solved}
+use Rattle.std.proofs.lemmas.List.{length-set, length-append, length-map, length-take, length-drop}
+use Rattle.elimination.specs.Lines.{at, inside, unknown_of, one_more, unknowns_of, and_then, cleared, cleared_below, traded, takable, pivot_of, lesser, or_stuck, columns_done, solved, Solves}
 use Rattle.elimination.specs.Nearest.{nearest, half_away, with_sign_of}
 use Rattle.elimination.proofs.Halves.{cast_whole}
 
@@ -30,13 +31,48 @@ found_inside n k (line ∷ ls) us e = go (unknowns_of n (suc k) ls) e (found_ins
     go None q h = none_some us q
     go (Some xs) q h = joined_inside (unknown_of n k line xs) xs us (inside (unknown_of n k line xs)) refl q (h xs refl)
 
-pub solved_inside : (s : Float) (ls : List (List Float)) (us : List Float) → Some us ≡ (solved s ls).1 → (k : ℕ) → k < length us → inside (at us k) ≡ true
-unfolding solved
-solved_inside s ls us e = go (columns_done (length ls) 0 s ls).1 (sym e)
+found_long : (n k : ℕ) (ls : List (List Float)) (us : List Float) → unknowns_of n k ls ≡ Some us → length us ≡ length ls
+found_long n k [] us e = let g : [] ≡ us = cc in ap length (sym g)
+found_long n k (line ∷ ls) us e = go (unknowns_of n (suc k) ls) e (found_long n (suc k) ls)
   where
-    go : (o : Option (List (List Float))) → and_then o (unknowns_of (length ls) 0) ≡ Some us → AllInside us
-    go None q = none_some us q
-    go (Some ms) q = found_inside (length ls) 0 ms us q
+    joined : (x : Float) (xs : List Float) (b : Bool) → cond b (Some (x ∷ xs)) None ≡ Some us → length xs ≡ length ls → length us ≡ suc (length ls)
+    joined x xs true f h = let g : x ∷ xs ≡ us = cc in ap length (sym g) ∙ ap suc h
+    joined x xs false f h = none_some us f
+
+    go : (o : Option (List Float)) → one_more n k line o ≡ Some us → ((xs : List Float) → o ≡ Some xs → length xs ≡ length ls) → length us ≡ suc (length ls)
+    go None q h = none_some us q
+    go (Some xs) q h = joined (unknown_of n k line xs) xs (inside (unknown_of n k line xs)) q (h xs refl)
+
+length_done : (k i j : ℕ) (ls : List (List Float)) → length (cleared_below k (traded i j ls)) ≡ length ls
+length_done k i j ls =
+    let ms = traded i j ls in
+    let a : length ms ≡ length ls = length-set (set ls i (get_or ls j [])) j (get_or ls i []) ∙ length-set ls i (get_or ls j []) in
+    let g = cleared k (get_or ms k []) in
+    let b = length-append (take (k + 1) ms) (map g (drop (k + 1) ms)) in
+    let c = length-map (drop (k + 1) ms) g in
+    omega (arith, length-take (k + 1) ms, length-drop (k + 1) ms)
+
+columns_long : (m k : ℕ) (s : Float) (ls ms : List (List Float)) → (columns_done m k s ls).1 ≡ Some ms → length ms ≡ length ls
+columns_long zero k s ls ms e = let g : ls ≡ ms = cc in ap length (sym g)
+columns_long (suc m) k s ls ms e = go (takable (pivot_of k ls).1) e (λ t xs q. columns_long m (suc k) (lesser s t) xs ms q)
+  where
+    go : (b : Bool) → (or_stuck s (cond b (Some ((pivot_of k ls).1, cleared_below k (traded k (pivot_of k ls).0 ls))) None) (λ t xs. columns_done m (suc k) (lesser s t) xs)).1 ≡ Some ms →
+        ((t : Float) (xs : List (List Float)) → (columns_done m (suc k) (lesser s t) xs).1 ≡ Some ms → length ms ≡ length xs) → length ms ≡ length ls
+    go true q f = f (pivot_of k ls).1 (cleared_below k (traded k (pivot_of k ls).0 ls)) q ∙ length_done k k (pivot_of k ls).0 ls
+    go false q f = none_some ms q
+
+-- a system that is solved has an unknown for each line, inside the bound
+pub solves : (s : Float) (ls : List (List Float)) → Solves (length ls) (solved s ls).1
+unfolding solved
+solves s ls = go (columns_done (length ls) 0 s ls).1 refl
+  where
+    found : (ms : List (List Float)) (o : Option (List Float)) → unknowns_of (length ls) 0 ms ≡ o → length ms ≡ length ls → Solves (length ls) o
+    found ms None e h = tt
+    found ms (Some us) e h = (found_long (length ls) 0 ms us e ∙ h, found_inside (length ls) 0 ms us e)
+
+    go : (o : Option (List (List Float))) → (columns_done (length ls) 0 s ls).1 ≡ o → Solves (length ls) (and_then o (unknowns_of (length ls) 0))
+    go None e = tt
+    go (Some ms) e = found ms (unknowns_of (length ls) 0 ms) refl (columns_long (length ls) 0 s ls ms e)
 
 half_within : (n d : ℕ) → 0 < d → n < 2 ^ 30 * d → half_away n d ≤ 2 ^ 30
 half_within n d p h =

@@ -1,4 +1,4 @@
--- Lemmas on the definitions of specs/Elim.antt.
+-- Lemmas on the definitions of specs/Lines.antt.
 use Rattle.std.proofs.Common.{◌≡◌, ℕ, suc, ◌+◌, ◌-◌, ◌<◌, ◌≤◌, true, false, cond, List, [], ◌∷◌, ◌++◌, map, length, get_or, take, drop, set, sym, refl, ap, ◌∙◌, add-one, arith}
 use lib.Ieee.{Float, nan, binary64, div, lt}
 use Rattle.std.proofs.lemmas.List.{take_more_set, drop-set-lt, drop_more, append_assoc, append-nil, take_all, drop_all, take_rest, length-drop, length-append, length-take, length-map, get_or-map, map-set, drop-map, map-append, take-map, get_or-take, length-take-le, get_or_at}

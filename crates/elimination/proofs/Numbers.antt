@@ -1,4 +1,4 @@
--- The constants of the code, as the numbers that specs/Elim.antt names.
+-- The constants of the code, as the numbers that specs/Lines.antt names.
 use Rattle.std.proofs.Common.{◌≡◌, false, pos, negsuc, refl}
 use lib.Ieee.{fin, binary64, of_bits, of_fields, odd}
 use lib.Count.{count_trailing_zeros}

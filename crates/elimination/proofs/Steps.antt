@@ -7,7 +7,7 @@ use Rattle.elimination.specs.Lines.{seen, cleared_below, traded, takable, pivot_
 use Rattle.elimination.proofs.Lines.{seen_at}
 
 -- after `swap`
-traded_by : (w : ℕ) (vs us : List (List Float)) (i j : ℕ) (v : List Float) → i < length vs → j < length vs → us ≡ set (set vs i (get_or vs j v)) j (get_or vs i v) → seen w us ≡ traded i j (seen w vs)
+pub traded_by : (w : ℕ) (vs us : List (List Float)) (i j : ℕ) (v : List Float) → i < length vs → j < length vs → us ≡ set (set vs i (get_or vs j v)) j (get_or vs i v) → seen w us ≡ traded i j (seen w vs)
 traded_by w vs us i j v h k e =
     let a = seen_at w vs i v [] h in
     let b = seen_at w vs j v [] k in

@@ -1,52 +1,52 @@
 //! Columns cleared from the left.
-ghost use Rattle.std.specs.Prelude.{◌≡◌, ◌+◌, ◌<◌, ◌≤◌, map, length, if◌then◌else◌, Some, None};
+ghost use Rattle.std.specs.Prelude.{◌≡◌, ◌<◌, ◌≤◌, ◌+◌, map, ◌+◌, length, take};
 ghost use Rattle.std.specs.Option.{option_map};
 ghost use Rattle.elimination.specs.Lines.{seen, less, cleared, cleared_below, column_done, columns_done};
+ghost use Rattle.elimination.specs.Squares.{lines_of};
 
-use crate::pivots::{can_be_pivot, pick_pivot};
+use crate::squares::System;
 
-/// Brings the lines to the upper triangle, or answers false at a column that has no pivot; either way the smallest size of a pivot is noted.
-pub(crate) fn eliminate(lines: &mut [[f64; 33]], smallest: &mut f64) -> bool
-    requires { length lines.old ≤ 32 }
-    ensures { (smallest.new, (if result then Some (seen (length lines.old + 1) lines.new) else None))
-        ≡ columns_done (length lines.old) 0 smallest.old (seen (length lines.old + 1) lines.old) }
-{
-    let width = lines.len() + 1;
-    for k in 0..lines.len() {
-        let Some(size) = eliminate_column(lines, width, k) else {
-            return false;
-        };
-        if size < *smallest {
-            *smallest = size;
+impl System {
+    /// Brings the lines to the upper triangle, or answers nothing at a column that has no pivot; either way the smallest size of a pivot is noted.
+    pub(crate) fn eliminate(&mut self, smallest: &mut f64) -> Option<()>
+        ensures size { self.new.size ≡ self.old.size }
+        ensures value { (smallest.new, option_map (λ _. lines_of self.new) result)
+            ≡ columns_done self.old.size 0 smallest.old (lines_of self.old) }
+    {
+        for k in 0..self.size {
+            let size = self.eliminate_column(k)?;
+            if size < *smallest {
+                *smallest = size;
+            }
         }
+        Some(())
     }
-    true
+
+    /// The size of column k's pivot, once the column is cleared below it.
+    fn eliminate_column(&mut self, k: usize) -> Option<f64>
+        requires { k < self.old.size }
+        ensures size { self.new.size ≡ self.old.size }
+        ensures value { option_map (λ s. (s, lines_of self.new)) result ≡ column_done k (lines_of self.old) }
+    {
+        let pivot = self.pivot(k);
+        if !pivot.can_be_taken() {
+            return None;
+        }
+        self.lines.swap(k, pivot.place);
+        clear_below(&mut self.lines, self.size, k);
+        Some(pivot.size)
+    }
 }
 
-/// The size of column k's pivot, once the column is cleared below it.
-fn eliminate_column(lines: &mut [[f64; 33]], width: usize, k: usize) -> Option<f64>
-    requires line { k < length lines.old }
-    requires column { k < width }
-    requires width { width ≤ 33 }
-    ensures { option_map (λ s. (s, seen width lines.new)) result ≡ column_done k (seen width lines.old) }
-{
-    let pivot = pick_pivot(lines, width, k);
-    if !can_be_pivot(pivot.size) {
-        return None;
-    }
-    lines.swap(k, pivot.place);
-    clear_below(lines, width, k);
-    Some(pivot.size)
-}
-
-fn clear_below(lines: &mut [[f64; 33]], width: usize, k: usize)
-    requires line { k < length lines.old }
-    requires column { k < width }
-    requires width { width ≤ 33 }
-    ensures { seen width lines.new ≡ cleared_below k (seen width lines.old) }
+// (beside the method: a part of a field cannot be lent from behind `&mut self` where the struct has a ghost field)
+fn clear_below(lines: &mut [[f64; 33]], size: usize, k: usize)
+    requires line { k < size }
+    requires size { size ≤ length lines.old }
+    requires few { size ≤ 32 }
+    ensures { seen (size + 1) (take size lines.new) ≡ cleared_below k (seen (size + 1) (take size lines.old)) }
 {
     let pivot_line = lines[k];
-    clear_lines(&mut lines[k + 1..], k, &pivot_line[0..width]);
+    clear_lines(&mut lines[k + 1..size], k, &pivot_line[..=size]);
 }
 
 /// Clears column k of each line, as far as the pivot's line goes.
@@ -74,7 +74,8 @@ fn subtract_multiple(line: &mut [f64], f: f64, pivot_line: &[f64])
     requires { length line.old ≡ length pivot_line.now }
     ensures { line.new ≡ less f line.old pivot_line.now }
 {
-    for i in 0..line.len() {
-        line[i] -= f * pivot_line[i];
+    // (after a zip of `iter_mut` a proof knows no element)
+    for (i, x) in line.iter_mut().enumerate() {
+        *x -= f * pivot_line[i];
     }
 }

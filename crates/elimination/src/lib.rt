@@ -7,6 +7,7 @@
 mod columns;
 mod pivots;
 mod rounding;
+mod squares;
 mod systems;
 mod unknowns;
 

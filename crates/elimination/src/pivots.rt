@@ -1,6 +1,9 @@
 //! The pivot of a column.
-ghost use Rattle.std.specs.Prelude.{◌≡◌, ◌<◌, ◌≤◌, length};
-ghost use Rattle.elimination.specs.Lines.{seen, pivot_of, takable};
+ghost use Rattle.std.specs.Prelude.{◌≡◌, ◌<◌};
+ghost use Rattle.elimination.specs.Lines.{pivot_of, takable};
+ghost use Rattle.elimination.specs.Squares.{lines_of};
+
+use crate::squares::System;
 
 /// A pivot's size lies strictly above this, 2^-20.
 const SMALLEST: f64 = 0.00000095367431640625;
@@ -14,29 +17,31 @@ pub(crate) struct Pivot {
     pub(crate) size: f64,
 }
 
-/// The first of the largest entries of column k, from line k down.
-pub(crate) fn pick_pivot(lines: &[[f64; 33]], width: usize, k: usize) -> Pivot
-    requires line { k < length lines.now }
-    requires column { k < width }
-    requires width { width ≤ 33 }
-    ensures value { (result.place, result.size) ≡ pivot_of k (seen width lines.now) }
-    ensures within { result.place < length lines.now }
-{
-    let mut best = Pivot {
-        place: k,
-        size: 0.0,
-    };
-    for i in k..lines.len() {
-        let size = lines[i][k].abs();
-        if size > best.size {
-            best = Pivot { place: i, size };
-        }
+impl Pivot {
+    pub(crate) fn can_be_taken(&self) -> bool
+        ensures { result ≡ takable self.now.size }
+    {
+        self.size > SMALLEST && self.size < LARGEST
     }
-    best
 }
 
-pub(crate) fn can_be_pivot(size: f64) -> bool
-    ensures { result ≡ takable size }
-{
-    size > SMALLEST && size < LARGEST
+impl System {
+    /// The first of the largest entries of column k, from line k down.
+    pub(crate) fn pivot(&self, k: usize) -> Pivot
+        requires { k < self.now.size }
+        ensures value { (result.place, result.size) ≡ pivot_of k (lines_of self.now) }
+        ensures within { result.place < self.now.size }
+    {
+        let mut best = Pivot {
+            place: k,
+            size: 0.0,
+        };
+        for (i, line) in self.lines[k..self.size].iter().enumerate() {
+            let size = line[k].abs();
+            if size > best.size {
+                best = Pivot { place: k + i, size };
+            }
+        }
+        best
+    }
 }

@@ -1,26 +1,39 @@
 //! The unknowns, from the last up.
-ghost use Rattle.std.specs.Prelude.{◌≡◌, ◌+◌, ◌-◌, ◌≤◌, length, if◌then◌else◌, Some, None};
-ghost use Rattle.elimination.specs.Lines.{seen, rest, inside, unknown_of, unknowns_of};
+ghost use Rattle.std.specs.Prelude.{◌≡◌, ◌+◌, ◌-◌, ◌<◌, [], length, slice_index_or};
+ghost use Rattle.std.specs.Option.{option_map};
+ghost use Rattle.elimination.specs.Lines.{rest, inside, unknown_of, unknowns_of, padded};
+ghost use Rattle.elimination.specs.Squares.{lines_of};
+
+use crate::squares::System;
 
 /// An unknown lies strictly within 2^30 either way.
 const BOUND: f64 = 1073741824.0;
 
-/// Whether each unknown lies inside: they are found from the last up.
-pub(crate) fn back_substitute(lines: &[[f64; 33]], unknowns: &mut [f64]) -> bool
-    requires few { length lines.now ≤ 32 }
-    requires same { length unknowns.old ≡ length lines.now }
-    ensures { (if result then Some unknowns.new else None)
-        ≡ unknowns_of (length lines.now) 0 (seen (length lines.now + 1) lines.now) }
-{
-    let width = lines.len() + 1;
-    for k in (0..lines.len()).rev() {
-        let x = unknown(&lines[k][0..width], k, &unknowns[k + 1..]);
-        if !is_inside(x) {
-            return false;
-        }
-        unknowns[k] = x;
+impl System {
+    /// Line k, as far as it is in use.
+    fn line(&self, k: usize) -> &[f64]
+        requires { k < self.now.size }
+        ensures value { result.now ≡ slice_index_or (lines_of self.now) k [] }
+        ensures width { length result.now ≡ self.now.size + 1 }
+    {
+        &self.lines[k][..=self.size]
     }
-    true
+
+    /// The unknowns, filled up with 0, where each lies inside: they are found from the last up.
+    pub(crate) fn back_substitute(&self) -> Option<[f64; 32]>
+        ensures { result ≡ option_map padded (unknowns_of self.now.size 0 (lines_of self.now)) }
+    {
+        let mut unknowns = [0.0; 32];
+        // (by index: k is the line's place and its unknown's, and those after it are read)
+        for k in (0..self.size).rev() {
+            let x = unknown(self.line(k), k, &unknowns[k + 1..self.size]);
+            if !is_inside(x) {
+                return None;
+            }
+            unknowns[k] = x;
+        }
+        Some(unknowns)
+    }
 }
 
 fn unknown(line: &[f64], k: usize, later: &[f64]) -> f64
