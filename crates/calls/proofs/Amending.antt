@@ -3,7 +3,7 @@ use Rattle.std.proofs.Common.{◌≡◌, Bool, true, false, cond, List, ℤ, Som
 use Rattle.duality.specs.Lists.{places}
 use Rattle.duality.specs.Problem.{Problem}
 use Rattle.opening.specs.declared.refusal.Refusal.{Refusal}
-use Rattle.evaluate.specs.Stated.{Numbers}
+use Rattle.terms.specs.Numbers.{Numbers}
 use Rattle.evaluate.specs.Findings.{feasible}
 use Rattle.evaluate.specs.Floors.{refuting}
 use Rattle.evaluate.proofs.Firsts.{feasible_decides}

@@ -7,7 +7,7 @@ use Rattle.duality.specs.Sums.{Matrix}
 use Rattle.duality.proofs.Refutation.{none_sound}
 use Rattle.table.specs.Grid.{matrix_of}
 use Rattle.opening.specs.declared.refusal.Refusal.{Refusal}
-use Rattle.evaluate.specs.Stated.{Numbers}
+use Rattle.terms.specs.Numbers.{Numbers}
 use Rattle.calls.specs.declared.answers.Amendment.{Amendment}
 use Rattle.calls.specs.States.{State, problem}
 use Rattle.calls.specs.Refusing.{amend_refusal}

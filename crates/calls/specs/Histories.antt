@@ -1,7 +1,7 @@
 -- Sequences of calls: the state that they lead to, the numbers in force after them, and what they offered.
 -- A history stands with the latest call first.
 use Rattle.std.specs.Prelude.{◌≡◌, ℕ, ◌⊎◌, List, [], ◌∷◌, ℤ, None}
-use Rattle.evaluate.specs.Stated.{Numbers}
+use Rattle.terms.specs.Numbers.{Numbers}
 use Rattle.calls.specs.declared.answers.Amendment.{Amendment}
 use Rattle.calls.specs.States.{State}
 use Rattle.calls.specs.Refusing.{amend_refusal}

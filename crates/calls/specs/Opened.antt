@@ -6,7 +6,7 @@ use Rattle.opening.specs.declared.refusal.Refusal.{Refusal}
 use Rattle.opening.specs.declared.refusal.Refusal.TheVariants.{Memory}
 use Rattle.opening.specs.Opening.{Numbers, open_fault}
 use Rattle.opening.specs.Fits.{Fits}
-use Rattle.evaluate.specs.Stated.{numbers}
+use Rattle.terms.specs.Numbers.{numbers}
 use Rattle.calls.specs.States.{State, problem}
 
 -- the tables and numbers handed in, no point, no proof, and the pair of l with all multipliers 0

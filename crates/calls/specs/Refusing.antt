@@ -8,7 +8,7 @@ use Rattle.duality.specs.Tests.{first_not, within}
 use Rattle.opening.specs.declared.refusal.Refusal.{Refusal}
 use Rattle.opening.specs.declared.refusal.Refusal.TheVariants.{OfferLength, OfferLimit, Bound, Row, NoProof, NoSuch}
 use Rattle.opening.specs.declared.refusal.Refusal.TheVariants as refusal
-use Rattle.evaluate.specs.Stated.{Numbers}
+use Rattle.terms.specs.Numbers.{Numbers}
 use Rattle.evaluate.specs.Findings.{keeps_bound, keeps_row}
 use Rattle.evaluate.specs.Floors.{refuting}
 use Rattle.calls.specs.declared.answers.Amendment.{Amendment}

@@ -5,7 +5,7 @@ use Rattle.duality.specs.Lists.{places}
 use Rattle.duality.specs.Problem.{Problem}
 use Rattle.opening.specs.declared.refusal.Refusal.{Refusal}
 use Rattle.opening.specs.declared.refusal.Refusal.TheVariants.{OfferLimit, Memory}
-use Rattle.evaluate.specs.Stated.{Numbers}
+use Rattle.terms.specs.Numbers.{Numbers}
 use Rattle.job.specs.Numbers as job
 use Rattle.job.specs.Rows.{judged}
 use Rattle.job.specs.declared.verdict.Verdict.{Verdict}

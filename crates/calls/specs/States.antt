@@ -4,7 +4,8 @@ use Rattle.duality.specs.Lists.{places}
 use Rattle.duality.specs.Problem.{Problem}
 use Rattle.duality.specs.Floor.{floor}
 use Rattle.table.specs.Grid.{Grid}
-use Rattle.evaluate.specs.Stated.{Numbers, stated}
+use Rattle.terms.specs.Numbers.{Numbers}
+use Rattle.evaluate.specs.Stated.{stated}
 
 -- a point, which may break rows and bounds, and a multiplier for each row
 pub record Pair : Type 0 where

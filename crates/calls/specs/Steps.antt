@@ -4,8 +4,9 @@ use Rattle.std.specs.Option.{unwrap_or}
 use Rattle.duality.specs.Lists.{places}
 use Rattle.duality.specs.Problem.{Problem, cost}
 use Rattle.duality.specs.Floor.{gap}
+pub use Rattle.opening.specs.Firsts.{unless}
 use Rattle.opening.specs.declared.refusal.Refusal.{Refusal}
-use Rattle.evaluate.specs.Stated.{Numbers}
+use Rattle.terms.specs.Numbers.{Numbers}
 use Rattle.evaluate.specs.Findings.{feasible}
 use Rattle.evaluate.specs.Floors.{refuting}
 use Rattle.calls.specs.declared.answers.Amendment.{Amendment}
@@ -18,11 +19,6 @@ use Rattle.calls.specs.declared.answers.Verdict.{Verdict}
 use Rattle.calls.specs.declared.answers.Verdict.TheVariants.{Taken, Kept}
 use Rattle.calls.specs.States.{State, Pair, problem, floor_of, with_point, with_proof, with_pair, with_numbers}
 use Rattle.calls.specs.Refusing.{length_refusal, point_refusal, pair_refusal, proof_refusal, amend_refusal}
-
--- an answer, unless there is a reason to refuse
-abbrev pub unless : {X : Type 0} → Option Refusal → X → Result X Refusal
-unless None x = Ok x
-unless (Some e) x = Err e
 
 abbrev pub verdict : Bool → Verdict
 verdict true = Taken
