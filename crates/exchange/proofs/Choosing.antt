@@ -1,11 +1,12 @@
 -- The definitions of breaches and choices, case by case.
 use Rattle.std.proofs.Common.{◌≡◌, ℕ, ◌+◌, ◌^◌, ◌<◌, ◌≤◌, Bool, true, false, ltb, List, length, ℤ, pos, nat_abs, Some, vec_items, sym, refl, ap, ◌∙◌, le_refl, le-ltb, lt-ltb}
 use lib.Signed.{lt_z}
+use Rattle.std.specs.Option.{unwrap_or}
 use Rattle.duality.specs.Lists.{places}
 use Rattle.duality.specs.Problem.{Problem, row_at}
 use Rattle.job.specs.Numbers.{problem_of}
 use Rattle.duality.specs.Tests.{many_within, answer}
-use Rattle.job.specs.Rows.{excess}
+use Rattle.terms.specs.Ticks.{excess}
 use Rattle.job.specs.declared.numbers.Job.{Job}
 use Rattle.job.proofs.Reading.{reads_row, row_is}
 use Rattle.job.proofs.Strides.{dot_small}
@@ -27,8 +28,8 @@ row_small j z i p l =
     let e = row_is j z 1073741824 (le_refl 1073741824) p i (vec_items j.a) refl in
     rw (← e) (dot_small (vec_items j.a) i j.rows z r)
 
-pub answer_is : (b : Bool) (s v : ℤ) → Some s ≡ answer b v → b ≡ true → s ≡ v
-answer_is b s v e t = let f : Some s ≡ Some v = rw t at e in cc
+pub answer_or : (b : Bool) (v : ℤ) → b ≡ true → unwrap_or (answer b v) (pos 0) ≡ v
+answer_or b v e = rw e
 
 pub breach_is : (P : Problem) (z : List ℤ) (v : Limit) (t : ℤ) (sd : Side) → t ≡ excess (low P v) (high P v) (value_at P z v) → sd ≡ side_of (low P v) (value_at P z v) →
     ◌≡◌ {A = Breach} (record { ticks = t; member = record { limit = v; side = sd } }) (breach P z v)

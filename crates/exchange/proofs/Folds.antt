@@ -1,6 +1,6 @@
 -- Loops that fold, and searches through members.
-use Rattle.std.proofs.Common.{◌≡◌, ℕ, ◌+◌, ◌<◌, ◌≤◌, true, false, List, length, get_or, drop, ℤ, pos, add-one, arith}
-use Rattle.std.proofs.lemmas.List.{drop_more, drop_all}
+use Rattle.std.proofs.Common.{◌≡◌, ℕ, ◌+◌, true, false, ◌||◌, List, [], ◌∷◌, ℤ, pos, refl, ap, ◌⊎◌, inl, inr, add-one}
+use Rattle.std.specs.List.{list_any}
 use Rattle.exchange.specs.Breaches.{same, holds, upto}
 use Rattle.duality.specs.Lists.{places}
 use Rattle.exchange.specs.Offers.{pressure_of, inside_limit}
@@ -10,27 +10,19 @@ use Rattle.exchange.specs.declared.members.Member.{Member}
 pub upto_more : {X : Type 0} (f : X → ℕ → X) (x : X) (n : ℕ) → upto f x (n + 1) ≡ f (upto f x n) n
 upto_more f x n = rw add-one
 
-pub holds_more : (ms : List Member) (v : Limit) (k : ℕ) (d : Member) → k < length ms → same (get_or ms k d).limit v ≡ false → holds (drop k ms) v ≡ holds (drop (k + 1) ms) v
-holds_more ms v k d h e = let p = drop_more ms k d h in rw (p, e)
+pub holds_any : (ms : List Member) (v : Limit) → list_any (λ (m : Member). same m.limit v) ms ≡ holds ms v
+holds_any [] v = refl
+holds_any (m ∷ ms) v = ap (λ z. same m.limit v || z) (holds_any ms v)
 
-pub holds_here : (ms : List Member) (v : Limit) (k : ℕ) (d : Member) → k < length ms → same (get_or ms k d).limit v ≡ true → holds (drop k ms) v ≡ true
-holds_here ms v k d h e = let p = drop_more ms k d h in rw (p, e)
+module _ (m : Member) (y : ℤ) (v : Limit) (ms us : List Member) (ys zs : List ℤ) (e : ms ≡ m ∷ us) (f : ys ≡ y ∷ zs) where
+  pub pressure_more : same m.limit v ≡ false → pressure_of ms ys v ≡ pressure_of us zs v
+  pressure_more h = rw (e, f, h)
 
-pub holds_none : (ms : List Member) (v : Limit) (k : ℕ) → length ms ≤ k → holds (drop k ms) v ≡ false
-holds_none ms v k h = let p = drop_all k ms h in rw p
+  pub pressure_here : same m.limit v ≡ true → pressure_of ms ys v ≡ inside_limit y
+  pressure_here h = rw (e, f, h)
 
-module _ (ms : List Member) (ys : List ℤ) (v : Limit) (k : ℕ) (d : Member) (h : k < length ms) (l : length ys ≡ length ms) where
-  pub pressure_more : same (get_or ms k d).limit v ≡ false → pressure_of (drop k ms) (drop k ys) v ≡ pressure_of (drop (k + 1) ms) (drop (k + 1) ys) v
-  pressure_more e =
-      let p = drop_more ms k d h in
-      let q = drop_more ys k (pos 0) (omega arith) in
-      rw (p, q, e)
-
-  pub pressure_here : same (get_or ms k d).limit v ≡ true → pressure_of (drop k ms) (drop k ys) v ≡ inside_limit (places ys k)
-  pressure_here e =
-      let p = drop_more ms k d h in
-      let q = drop_more ys k (pos 0) (omega arith) in
-      rw (p, q, e)
-
-pub pressure_none : (ms : List Member) (ys : List ℤ) (v : Limit) (k : ℕ) → length ms ≤ k → pressure_of (drop k ms) (drop k ys) v ≡ pos 0
-pressure_none ms ys v k h = let p = drop_all k ms h in rw p
+pub pressure_none : (ms : List Member) (ys : List ℤ) (v : Limit) → (ms ≡ []) ⊎ (ys ≡ []) → pressure_of ms ys v ≡ pos 0
+pressure_none [] ys v h = refl
+pressure_none (m ∷ ms) [] v h = refl
+pressure_none (m ∷ ms) (y ∷ ys) v (inl e) = cc
+pressure_none (m ∷ ms) (y ∷ ys) v (inr e) = cc

@@ -2,7 +2,7 @@
 use Rattle.std.specs.Prelude.{◌≡◌, ℕ, zero, suc, ◌<◌, Bool, false, cond, ◌||◌, List, [], ◌∷◌, length, take, ℤ, pos, ◌≤ℤ◌, ◌==◌, int_lt, slice_index_or}
 use Rattle.duality.specs.Lists.{places}
 use Rattle.duality.specs.Problem.{Problem, row_at}
-use Rattle.job.specs.Rows.{excess}
+use Rattle.terms.specs.Ticks.{excess}
 use Rattle.exchange.specs.Members.{Of, low, high}
 use Rattle.exchange.specs.declared.members.Limit.{Limit}
 use Rattle.exchange.specs.declared.members.Limit.TheVariants.{Row, Bound}

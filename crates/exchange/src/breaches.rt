@@ -2,36 +2,19 @@
 ghost use Rattle.std.specs.Prelude.{◌≡◌, ◌^◌, ◌<◌, ◌≤◌, true, unsigned_abs};
 ghost use Rattle.job.specs.Numbers.{problem_of};
 ghost use Rattle.duality.specs.Tests.{many_within};
-ghost use Rattle.job.specs.Rows.{excess as excess_of};
 ghost use Rattle.exchange.specs.Members.{Of};
-ghost use Rattle.exchange.specs.Breaches.{same as same_of, holds as holds_of, value_at, breach as breach_of, worse as worse_of, worst_row, worst as worst_of};
+ghost use Rattle.exchange.specs.Breaches.{holds as holds_of, value_at, breach as breach_of, worse as worse_of, worst_row, worst as worst_of};
 
 use crate::members::{Breach, Limit, Member, Side};
-use crate::systems::{high, low};
+use crate::systems::held_at;
 use job::Job;
-
-/// Whether two limits are one.
-pub(crate) fn same(a: Limit, b: Limit) -> bool
-    ensures { result ≡ same_of a b }
-{
-    match (a, b) {
-        (Limit::Row(i), Limit::Row(k)) => i == k,
-        (Limit::Bound(j), Limit::Bound(k)) => j == k,
-        (Limit::Row(_), Limit::Bound(_)) => false,
-        (Limit::Bound(_), Limit::Row(_)) => false,
-    }
-}
+use terms::excess;
 
 /// Whether a limit is held, on either side.
 pub(crate) fn holds(members: &[Member], limit: Limit) -> bool
     ensures { result ≡ holds_of members.now limit }
 {
-    for k in 0..members.len() {
-        if same(members[k].limit, limit) {
-            return true;
-        }
-    }
-    false
+    members.iter().any(|member| member.limit == limit)
 }
 
 fn value_at(job: &Job, pulls: &[i64], limit: Limit) -> i64
@@ -41,33 +24,9 @@ fn value_at(job: &Job, pulls: &[i64], limit: Limit) -> i64
     ensures small { unsigned_abs result ≤ 2 ^ 54 }
 {
     match limit {
-        Limit::Row(i) => row_value(job, pulls, i),
+        Limit::Row(i) => job.row_sum(i, pulls).unwrap_or(0),
         Limit::Bound(j) => pulls[j],
     }
-}
-
-fn row_value(job: &Job, pulls: &[i64], i: usize) -> i64
-    requires row { i < job.now.rows }
-    requires point { many_within job.now.ropes 1073741824 pulls.now ≡ true }
-    ensures value { result ≡ value_at (problem_of job.now) pulls.now (Limit.Row i) }
-    ensures small { unsigned_abs result ≤ 2 ^ 54 }
-{
-    match job.row_sum(i, pulls) {
-        Some(s) => s,
-        None => 0,
-    }
-}
-
-fn excess(low: i64, high: i64, s: i64) -> i64
-    requires low { unsigned_abs low ≤ 536870912 }
-    requires high { unsigned_abs high ≤ 536870912 }
-    requires s { unsigned_abs s ≤ 2 ^ 54 }
-    ensures { result ≡ excess_of low high s }
-{
-    let under = low - s;
-    let above = s - high;
-    let most = under.max(above);
-    0i64.max(most)
 }
 
 fn breach(job: &Job, pulls: &[i64], limit: Limit) -> Breach
@@ -75,11 +34,24 @@ fn breach(job: &Job, pulls: &[i64], limit: Limit) -> Breach
     requires point { many_within job.now.ropes 1073741824 pulls.now ≡ true }
     ensures { result ≡ breach_of (problem_of job.now) pulls.now limit }
 {
-    let lower = low(job, limit);
+    let lower = held_at(
+        job,
+        Member {
+            limit,
+            side: Side::Lower,
+        },
+    );
+    let upper = held_at(
+        job,
+        Member {
+            limit,
+            side: Side::Upper,
+        },
+    );
     let s = value_at(job, pulls, limit);
     let side = if s < lower { Side::Lower } else { Side::Upper };
     Breach {
-        ticks: excess(lower, high(job, limit), s),
+        ticks: excess(lower, upper, s),
         member: Member { limit, side },
     }
 }

@@ -1,21 +1,23 @@
 //! What the working set is made of.
 
+use std::fmt;
+
 /// A limit of the problem: a row, or the bound of a rope.
-#[derive(Clone, Copy)]
+#[derive(Clone, Copy, Debug, PartialEq, Eq)]
 pub enum Limit {
     Row(usize),
     Bound(usize),
 }
 
 /// The side on which a limit is held.
-#[derive(Clone, Copy)]
+#[derive(Clone, Copy, Debug, PartialEq, Eq)]
 pub enum Side {
     Lower,
     Upper,
 }
 
 /// A member of the working set: a limit that is held as an equation on one side.
-#[derive(Clone, Copy)]
+#[derive(Clone, Copy, Debug, PartialEq, Eq)]
 pub struct Member {
     pub limit: Limit,
     pub side: Side,
@@ -23,27 +25,27 @@ pub struct Member {
 
 /// How many ticks a point lies outside a limit, and the member that would hold it inside.
 #[derive(Clone, Copy)]
-pub struct Breach {
-    pub ticks: i64,
+pub(crate) struct Breach {
+    pub(crate) ticks: i64,
     pub member: Member,
 }
 
 /// How far a multiplier lies on the wrong side of 0, and whose it is.
 #[derive(Clone, Copy)]
-pub struct Wrong {
+pub(crate) struct Wrong {
     pub size: u64,
     pub place: usize,
 }
 
 /// What a step offers: a point inside the bounds, and a multiplier in 256ths for each row. Places past the ropes and the rows are 0.
-#[derive(Clone, Copy)]
+#[derive(Clone, Copy, Debug, PartialEq, Eq)]
 pub struct Offer {
     pub point: [i64; 16],
     pub multipliers: [i64; 32],
 }
 
 /// What becomes of the working set after a step.
-#[derive(Clone, Copy)]
+#[derive(Clone, Copy, Debug, PartialEq, Eq)]
 pub enum Choice {
     /// This member enters.
     Enter(Member),
@@ -56,7 +58,7 @@ pub enum Choice {
 }
 
 /// What a step came to.
-#[derive(Clone, Copy)]
+#[derive(Clone, Copy, Debug, PartialEq, Eq)]
 pub enum Step {
     /// The job has other sizes than the exchange was made for: nothing was done.
     Refused,
@@ -67,7 +69,7 @@ pub enum Step {
 }
 
 /// How an exchange ends.
-#[derive(Clone, Copy)]
+#[derive(Clone, Copy, Debug, PartialEq, Eq)]
 pub enum End {
     /// No limit is broken and no multiplier is wrong.
     Done,
@@ -79,8 +81,19 @@ pub enum End {
     Spent,
 }
 
+impl fmt::Display for End {
+    fn fmt<W: fmt::Write>(&self, f: &mut fmt::Formatter<W>) -> fmt::Result {
+        f.write_str(match self {
+            End::Done => "done",
+            End::Full => "full",
+            End::Stuck => "stuck",
+            End::Spent => "spent",
+        })
+    }
+}
+
 /// What is said of a whole exchange: steps begun, its end, and the smallest size of a pivot taken, 0 if none.
-#[derive(Clone, Copy)]
+#[derive(Clone, Copy, Debug, PartialEq)]
 pub struct Report {
     pub steps: usize,
     pub end: End,

@@ -5,7 +5,6 @@ ghost use Rattle.job.specs.Numbers.{problem_of};
 ghost use Rattle.exchange.specs.Rounding.{pulled, pressed};
 ghost use Rattle.exchange.specs.Offers.{filled, inside_bounds, inside_limit, pressure_of, multipliers as multipliers_of};
 
-use crate::breaches::same;
 use crate::members::{Limit, Member};
 use crate::rounds::{round_pressures, round_pulls};
 use job::Job;
@@ -53,9 +52,9 @@ fn pressure_of(members: &[Member], pressures: &[i64], limit: Limit) -> i64
     requires { length pressures.now ≡ length members.now }
     ensures { result ≡ pressure_of members.now pressures.now limit }
 {
-    for k in 0..members.len() {
-        if same(members[k].limit, limit) {
-            return inside_limit(pressures[k]);
+    for (member, pressure) in members.iter().zip(pressures) {
+        if member.limit == limit {
+            return inside_limit(*pressure);
         }
     }
     0

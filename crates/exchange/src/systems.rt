@@ -2,7 +2,7 @@
 ghost use Rattle.std.specs.Prelude.{◌≡◌, ℕ, ◌+◌, ◌<◌, ◌≤◌, length, take, neg_ℤ, unsigned_abs};
 ghost use Rattle.job.specs.Numbers.{problem_of};
 ghost use Rattle.elimination.specs.Lines.{seen};
-ghost use Rattle.exchange.specs.Members.{Of, OfAll, weight as weight_of, low as low_of, high as high_of, held_at};
+ghost use Rattle.exchange.specs.Members.{Of, OfAll, weight as weight_of, held_at};
 ghost use Rattle.exchange.specs.Systems.{member_at, rope_entry, member_entry, entry as entry_of, line_of, system_of};
 
 use crate::members::{Limit, Member, Side};
@@ -53,35 +53,17 @@ fn weight(job: &Job, limit: Limit, j: usize) -> i64
     }
 }
 
-pub(crate) fn low(job: &Job, limit: Limit) -> i64
-    requires { Of job.now.ropes job.now.rows limit }
-    ensures value { result ≡ low_of (problem_of job.now) limit }
-    ensures small { unsigned_abs result ≤ 536870912 }
-{
-    match limit {
-        Limit::Row(i) => job.lo[i],
-        Limit::Bound(j) => job.l[j],
-    }
-}
-
-pub(crate) fn high(job: &Job, limit: Limit) -> i64
-    requires { Of job.now.ropes job.now.rows limit }
-    ensures value { result ≡ high_of (problem_of job.now) limit }
-    ensures small { unsigned_abs result ≤ 536870912 }
-{
-    match limit {
-        Limit::Row(i) => job.hi[i],
-        Limit::Bound(j) => job.u[j],
-    }
-}
-
-fn held_at(job: &Job, member: Member) -> i64
+/// The number at which a member holds its limit.
+pub(crate) fn held_at(job: &Job, member: Member) -> i64
     requires { Of job.now.ropes job.now.rows member.limit }
-    ensures { result ≡ held_at (problem_of job.now) member }
+    ensures value { result ≡ held_at (problem_of job.now) member }
+    ensures small { unsigned_abs result ≤ 536870912 }
 {
-    match member.side {
-        Side::Lower => low(job, member.limit),
-        Side::Upper => high(job, member.limit),
+    match (member.limit, member.side) {
+        (Limit::Row(i), Side::Lower) => job.lo[i],
+        (Limit::Row(i), Side::Upper) => job.hi[i],
+        (Limit::Bound(j), Side::Lower) => job.l[j],
+        (Limit::Bound(j), Side::Upper) => job.u[j],
     }
 }
 

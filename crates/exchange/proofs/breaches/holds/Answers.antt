@@ -1,12 +1,13 @@
-use Rattle.std.proofs.Common.{sym, ◌∙◌}
-use Rattle.exchange.proofs.Folds.{holds_more, holds_here, holds_none}
+use Rattle.std.proofs.Common.{◌≡◌, ◌∙◌, rules, tests}
+use Rattle.std.proofs.lemmas.Iterator.{YieldsList-from_slice}
+use Rattle.std.proofs.lemmas.Iterator.Search.{any_from_yields_List}
+use Rattle.exchange.specs.declared.members.Member.{Member}
+use Rattle.exchange.specs.Breaches.{same}
+use Rattle.exchange.proofs.Folds.{holds_any}
 use Rattle.exchange.proofs.breaches.holds.Goals as goal
 
-pub returns-then-same : goal.returns-then-same
-returns-then-same c = sym (holds_here c.args.members.now c.args.limit c.loop-k.k _ c.loop-k-test.true (sym c.if-same.ensures)) ∙ c.loop-k.invariant
-
-pub loop-k-preserved : goal.loop-k-preserved
-loop-k-preserved c = sym (holds_more c.args.members.now c.args.limit c.loop-k.k _ c.loop-k-test.true (sym c.if-same.ensures)) ∙ c.loop-k.invariant
-
 pub returns : goal.returns
-returns c = sym (holds_none c.args.members.now c.args.limit c.loop-k.k c.loop-k-test.false) ∙ c.loop-k.invariant
+returns c =
+    let ms = c.args.members.now in
+    let v = c.args.limit in
+    any_from_yields_List (λ (m : Member). same m.limit v) _ _ c.any.result c.any.ensures.ran (YieldsList-from_slice ms cc) (λ x b q k. search (rules, tests)) ∙ holds_any ms v

@@ -1,15 +1,33 @@
-use Rattle.std.proofs.Common.{nat_abs, sym, ap, ◌∙◌, arith, w64, SFits, rules}
+use Rattle.std.proofs.Common.{◌≡◌, true, ◌&&◌, ltb, pos, nat_abs, ap, ◌∙◌, subst, arith, w64, SFits, rules, lt-ltb}
 use Rattle.std.proofs.lemmas.Int.{to_z-of_z}
+use Rattle.std.proofs.lemmas.Bool.{and_from}
+use Rattle.std.specs.Option.{unwrap_or}
 use Rattle.duality.specs.Lists.{places}
+use Rattle.duality.specs.Problem.{row_at}
+use Rattle.duality.specs.Tests.{many_within}
 use Rattle.job.specs.Numbers.{problem_of}
 use Rattle.job.proofs.Reading.{point_small}
-use Rattle.exchange.specs.Breaches.{value_at}
+use Rattle.exchange.specs.Members.{Of}
+use Rattle.exchange.specs.declared.members.Limit.{Limit}
+use Rattle.exchange.proofs.Choosing.{answer_or, row_small}
 use Rattle.exchange.proofs.breaches.value_at.Goals as goal
 
-pub returns-in-Bound : goal.returns-in-Bound
-returns-in-Bound c =
+pub returns-in-Row-clause-small : goal.returns-in-Row-clause-small
+returns-in-Row-clause-small c =
+    let j = c.args.job.now in
+    let z = c.args.pulls.now in
+    let i = c.in-Row.i in
+    let P : Limit → Type 0 = Of j.ropes j.rows in
+    let h = subst P c.in-Row.is c.requires.limit in
+    let f : SFits w64 c.unwrap_or.result = search rules in
+    let b : (ltb i j.rows && many_within j.ropes 1073741824 z) ≡ true = and_from _ _ (lt-ltb _ _ h) c.requires.point in
+    let o = answer_or _ (row_at (problem_of j) (places z) i) b in
+    let e = to_z-of_z w64 _ f ∙ c.unwrap_or.ensures ∙ ap (λ x. unwrap_or x (pos 0)) c.row_sum.ensures ∙ o in
+    omega (arith, ap nat_abs e, row_small j z i c.requires.point h)
+
+pub returns-in-Bound-clause-small : goal.returns-in-Bound-clause-small
+returns-in-Bound-clause-small c =
     let j = c.args.job.now in
     let z = c.args.pulls.now in
     let f : SFits w64 (places z c.in-Bound.j) = search rules in
-    let e = to_z-of_z w64 _ f in
-    record { value = e ∙ ap (value_at (problem_of j) z) (sym c.in-Bound.is); small = omega (arith, ap nat_abs e, point_small j.ropes 1073741824 z c.requires.point c.in-Bound.j) }
+    omega (arith, ap nat_abs (to_z-of_z w64 _ f), point_small j.ropes 1073741824 z c.requires.point c.in-Bound.j)
