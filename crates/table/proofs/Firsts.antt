@@ -1,9 +1,10 @@
 -- The first record for a place, as a loop along the records finds it.
-use Rattle.std.proofs.Common.{◌≡◌, ℕ, ◌+◌, ◌-◌, ◌<◌, ◌≤◌, Bool, true, false, cond, List, [], ◌∷◌, ◌++◌, length, get_or, drop, ℤ, pos, negsuc, Some, Decides, sym, refl, ap, ◌∙◌, ⊎_elim, arith}
-use Rattle.std.proofs.lemmas.List.{at_drop_more, at_drop_all}
+use Rattle.std.proofs.Common.{◌≡◌, ℕ, ◌+◌, ◌-◌, ◌<◌, ◌≤◌, Bool, true, false, cond, List, [], ◌∷◌, ◌++◌, length, get_or, drop, reverse, ℤ, pos, negsuc, Some, None, Option, Bor, unwrap_or, Decides, sym, refl, ap, ◌∙◌, ⊎_elim, arith}
+use Rattle.std.proofs.lemmas.List.{at_drop_more, at_drop_all, get_or-reverse}
 use Rattle.std.proofs.lemmas.Bool.{eqb-true, eq-eqb, false≢true, cases_Bool, cond-true, cond-false}
 use Rattle.std.proofs.lemmas.Bool.Decides.{Decides-and}
-use Rattle.std.specs.List.{AllByRecursion}
+use Rattle.std.specs.List.{AllByRecursion, find}
+use Rattle.std.specs.Option.{MatchOption, option_map}
 use Rattle.table.specs.declared.triplets.Record.{Record}
 use Rattle.duality.specs.Lists.{places}
 use Rattle.table.specs.Grid.{cut, width_of, limited, product_of}
@@ -13,14 +14,6 @@ use Rattle.table.specs.RecordLaws.{For, NotFor, Told}
 use Rattle.table.proofs.Alikes.{same_product}
 use Rattle.table.proofs.Bounds.{cut_below}
 use Rattle.table.proofs.Places.{place_inside}
-
-pub recorded_here : (rs : List Record) (k : ℕ) (d : Record) (i j : ℕ) → k < length rs → is_for (get_or rs k d) i j ≡ true → recorded (drop k rs) i j ≡ (get_or rs k d).number
-recorded_here rs k d i j h t =
-    at_drop_more (λ l. recorded l i j) rs k d h ∙ ap (λ (b : Bool). cond b (get_or rs k d).number (recorded (drop (k + 1) rs) i j)) t
-
-pub recorded_past : (rs : List Record) (k : ℕ) (d : Record) (i j : ℕ) → k < length rs → is_for (get_or rs k d) i j ≡ false → recorded (drop k rs) i j ≡ recorded (drop (k + 1) rs) i j
-recorded_past rs k d i j h t =
-    at_drop_more (λ l. recorded l i j) rs k d h ∙ ap (λ (b : Bool). cond b (get_or rs k d).number (recorded (drop (k + 1) rs) i j)) t
 
 pub recorded_end : (rs : List Record) (k i j : ℕ) → length rs ≤ k → recorded (drop k rs) i j ≡ pos 0
 recorded_end rs k i j h = at_drop_all (λ l. recorded l i j) rs k h
@@ -59,19 +52,22 @@ told high wide rs =
 
 -- a row of numbers, written from the last record to the first ------------------------------
 
-recorded_more : (rs : List Record) (k : ℕ) (d : Record) (i j : ℕ) → 0 < k → k ≤ length rs
-    → recorded (drop (k - 1) rs) i j ≡ cond (is_for (get_or rs (k - 1) d) i j) (get_or rs (k - 1) d).number (recorded (drop k rs) i j)
-recorded_more rs k d i j low high =
-    let back : k - 1 + 1 ≡ k = omega arith in
-    at_drop_more (λ l. recorded l i j) rs (k - 1) d (omega arith)
-    ∙ ap (λ (n : ℕ). cond (is_for (get_or rs (k - 1) d) i j) (get_or rs (k - 1) d).number (recorded (drop n rs) i j)) back
-
-pub row_more : (rs : List Record) (k : ℕ) (d : Record) (i : ℕ) (old new : List ℤ) → 0 < k → k ≤ length rs → length old ≡ 64
-    → ((j : ℕ) → j < 64 → places old j ≡ recorded (drop k rs) i j) → Written old (get_or rs (k - 1) d) i new
-    → (j : ℕ) → j < 64 → places new j ≡ recorded (drop (k - 1) rs) i j
-row_more rs k d i old new low high long before written j h =
-    let r = get_or rs (k - 1) d in
-    written j (omega arith) ∙ ap (λ (z : ℤ). cond (is_for r i j) r.number z) (before j h) ∙ sym (recorded_more rs k d i j low high)
+pub row_more : (rs : List Record) (n : ℕ) (r : Record) (i : ℕ) (old new : List ℤ) → n < length rs → length old ≡ 64 → r ≡ get_or (reverse rs) n r
+    → ((j : ℕ) → j < 64 → places old j ≡ recorded (drop (length rs - n) rs) i j) → Written old r i new
+    → (j : ℕ) → j < 64 → places new j ≡ recorded (drop (length rs - (n + 1)) rs) i j
+row_more rs n r i old new inside long here before written j h =
+    let k = length rs - 1 - n in
+    let next : k + 1 ≡ length rs - n = omega arith in
+    let now : k ≡ length rs - (n + 1) = omega arith in
+    let at : get_or rs k r ≡ r = sym (get_or-reverse rs n r inside) ∙ sym here in
+    let told : recorded (drop k rs) i j ≡ cond (is_for r i j) r.number (recorded (drop (length rs - n) rs) i j) =
+    at_drop_more (λ l. recorded l i j) rs k r (omega arith)
+    ∙ ap (λ (s : Record). cond (is_for s i j) s.number (recorded (drop (k + 1) rs) i j)) at
+    ∙ ap (λ (m : ℕ). cond (is_for r i j) r.number (recorded (drop m rs) i j)) next in
+    written j (omega arith)
+    ∙ ap (λ (z : ℤ). cond (is_for r i j) r.number z) (before j h)
+    ∙ sym told
+    ∙ ap (λ (m : ℕ). recorded (drop m rs) i j) now
 
 pub line_product : (high wide : ℤ) (rs : List Record) (i : ℕ) (xs ns : List ℤ) → i < cut high → length ns ≡ cut wide → ((j : ℕ) → j < cut wide → places ns j ≡ recorded rs i j)
     → product_of (line_grid ns) 0 xs ≡ product_of (triplet_grid high wide rs) i xs
@@ -82,3 +78,18 @@ line_product high wide rs i xs ns inside long same =
     place_inside (line_grid ns) 0 j (omega arith) h
     ∙ ap (λ (z : ℤ). limited (Some z)) (same j l)
     ∙ sym (place_inside (triplet_grid high wide rs) i j inside l))
+
+-- the number of the record that `find` gives
+recorded_found : (rs : List Record) (i j : ℕ) → recorded rs i j ≡ unwrap_or (option_map (λ r. r.number) (find (λ r. is_for r i j) rs)) (pos 0)
+recorded_found [] i j = refl
+recorded_found (r ∷ rs) i j = here (is_for r i j) (recorded_found rs i j)
+  where
+    here : (b : Bool) → recorded rs i j ≡ unwrap_or (option_map (λ r. r.number) (find (λ r. is_for r i j) rs)) (pos 0)
+        → cond b r.number (recorded rs i j) ≡ unwrap_or (option_map (λ r. r.number) (cond b (Some r) (find (λ r. is_for r i j) rs))) (pos 0)
+    here true e = refl
+    here false e = e
+
+pub found_number : (rs : List Record) (i j : ℕ) (Q : Bor Record → Type 0) (o : Option (Bor Record)) (z : ℤ) → option_map (λ y. y.now) o ≡ find (λ r. is_for r i j) rs
+    → MatchOption o (z ≡ pos 0) Q → ((y : Bor Record) → Q y → z ≡ y.now.number) → z ≡ recorded rs i j
+found_number rs i j Q None z e h k = h ∙ sym (recorded_found rs i j ∙ ap (λ (o : Option Record). unwrap_or (option_map (λ r. r.number) o) (pos 0)) (sym e))
+found_number rs i j Q (Some y) z e h k = k y h ∙ sym (recorded_found rs i j ∙ ap (λ (o : Option Record). unwrap_or (option_map (λ r. r.number) o) (pos 0)) (sym e))

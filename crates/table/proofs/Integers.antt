@@ -1,5 +1,5 @@
 -- The size of a sum and of a product of integers, and what fits 64 bits.
-use Rattle.std.proofs.Common.{◌≡◌, ℕ, zero, suc, ◌+◌, ◌*◌, ◌^◌, ◌<◌, ◌≤◌, ℤ, pos, negsuc, ◌+ℤ◌, ◌*ℤ◌, neg_ℤ, nat_abs, refl, ap, ◌∙◌, suc-mul, mul-le-mul, arith, w64, SFits, to_z, of_z}
+use Rattle.std.proofs.Common.{◌≡◌, ℕ, zero, suc, ◌+◌, ◌*◌, ◌^◌, ◌<◌, ◌≤◌, ℤ, pos, negsuc, ◌+ℤ◌, ◌*ℤ◌, neg_ℤ, nat_abs, refl, suc-mul, mul-le-mul, arith, w64, SFits, to_z, of_z}
 use borrow.Author.Differences.{abs_is}
 use Rattle.std.proofs.lemmas.Int.{ints, to_z-of_z}
 use Rattle.duality.specs.Sums.{Vector, ∑}
@@ -24,10 +24,7 @@ pub fits_below : (z : ℤ) → nat_abs z ≤ 2 ^ 62 → SFits w64 z
 fits_below (pos n) h = record { sfits = omega arith }
 fits_below (negsuc n) h = record { sfits = omega arith }
 
--- the size of a number, and a product, as the code holds them
-pub abs_held : (a : ℤ) (n m : ℕ) → SFits w64 a → n ≡ nat_abs (to_z w64 (of_z w64 a)) → n ≤ m → nat_abs a ≤ m
-abs_held a n m fits e h = let d : n ≡ nat_abs a = e ∙ ap nat_abs (to_z-of_z w64 a fits) in omega arith
-
+-- a product, as the code holds it
 pub mul_held : (a b : ℤ) → SFits w64 a → SFits w64 b → SFits w64 (a *ℤ b) → to_z w64 (of_z w64 (to_z w64 (of_z w64 a) *ℤ to_z w64 (of_z w64 b))) ≡ a *ℤ b
 mul_held a b fa fb fab = simp to_z-of_z
 

@@ -3,7 +3,7 @@ ghost use Rattle.std.specs.Prelude.{◌≡◌, ◌^◌, ◌≤◌};
 ghost use Rattle.table.specs.Grid.{Grid, height_of, place_of, product_of, width_of};
 ghost use Rattle.table.specs.Laws.{Bounded, Exactly, Multiplies};
 
-use crate::limits::FACTOR_LIMIT;
+use terms::{ROUNDED_LIMIT, within};
 
 /// A kind of table of whole numbers. Rows and columns count from 0.
 ///
@@ -40,12 +40,12 @@ pub trait Table {
             return None;
         }
         let mut sum = 0;
-        for j in 0..xs.len() {
-            if xs[j].unsigned_abs() > FACTOR_LIMIT {
+        for (j, x) in xs.iter().enumerate() {
+            if !within(ROUNDED_LIMIT, *x) {
                 return None;
             }
             let number = self.place(i, j)?;
-            sum += number * xs[j];
+            sum += number * *x;
         }
         Some(sum)
     }

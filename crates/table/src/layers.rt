@@ -9,7 +9,7 @@ use crate::interface::Table;
 use crate::limits::limit_number;
 
 /// A table with its rows and columns swapped.
-#[derive(Drop)]
+#[derive(Clone, PartialEq, Eq, Debug, Drop)]
 pub struct Flip<T> {
     pub below: T,
 }
@@ -43,7 +43,7 @@ impl<T: Table> Table for Flip<T> {
 }
 
 /// Two tables added up, place by place, as far as both reach.
-#[derive(Drop)]
+#[derive(Clone, PartialEq, Eq, Debug, Drop)]
 pub struct Sum<T, U> {
     pub left: T,
     pub right: U,
@@ -65,9 +65,7 @@ fn add_numbers(a: Option<i64>, b: Option<i64>) -> Option<i64>
     requires near { (Bounded 1048576 a) × (Bounded 1048576 b) }
     ensures { result ≡ limited (added a b) }
 {
-    let a = a?;
-    let b = b?;
-    limit_number(a + b)
+    limit_number(a? + b?)
 }
 
 impl<T: Table, U: Table> Table for Sum<T, U> {

@@ -10,7 +10,8 @@ mod triplets;
 
 pub use interface::Table;
 pub use layers::{Flip, Sum, column_product};
-pub use limits::{FACTOR_LIMIT, PLACE_LIMIT, SIZE_LIMIT, cut_size, limit_number};
+pub use limits::{SIZE_LIMIT, cut_size, limit_number};
+pub use terms::{PLACE_LIMIT, ROUNDED_LIMIT as FACTOR_LIMIT};
 pub use triplets::{Record, Triplets};
 
 #[cfg(test)]

@@ -9,7 +9,7 @@ use crate::limits::{SIZE_LIMIT, cut_size, limit_number};
 use crate::line::Line;
 
 /// A number and the place that it is for.
-#[derive(Clone, Copy)]
+#[derive(Clone, Copy, PartialEq, Eq, Debug)]
 pub struct Record {
     pub row: i64,
     pub column: i64,
@@ -17,7 +17,7 @@ pub struct Record {
 }
 
 /// A table by its sizes and a list of records. The first record for a place counts, and a place without one is 0.
-#[derive(Clone, Copy)]
+#[derive(Clone, Copy, PartialEq, Eq, Debug)]
 pub struct Triplets<'a> {
     pub height: i64,
     pub width: i64,
@@ -28,7 +28,7 @@ pub struct Triplets<'a> {
 fn is_index(z: i64, k: usize) -> bool
     ensures { result ≡ is_index z k }
 {
-    z >= 0 && z as usize == k
+    usize::try_from(z).is_ok_and(|n| n == k)
 }
 
 impl Record {
@@ -43,11 +43,10 @@ impl Record {
     fn put_into(&self, row: &mut [i64], i: usize)
         ensures { Written row.old self.now i row.new }
     {
-        if !is_index(self.row, i) || self.column < 0 {
+        let Ok(j) = usize::try_from(self.column) else {
             return;
-        }
-        let j = self.column as usize;
-        if j < row.len() {
+        };
+        if is_index(self.row, i) && j < row.len() {
             row[j] = self.number;
         }
     }
@@ -57,12 +56,10 @@ impl Record {
 fn first_number(records: &[Record], i: usize, j: usize) -> i64
     ensures { result ≡ recorded records.now i j }
 {
-    for record in records {
-        if record.is_for(i, j) {
-            return record.number;
-        }
-    }
-    0
+    records
+        .iter()
+        .find(|record| record.is_for(i, j))
+        .map_or(0, |record| record.number)
 }
 
 /// The numbers in row `i`, in one pass: from the last record to the first, so that the first for a place stays.
@@ -70,8 +67,8 @@ fn row_numbers(records: &[Record], i: usize) -> [i64; SIZE_LIMIT]
     ensures { (j : ℕ) → j < 64 → places result j ≡ recorded records.now i j }
 {
     let mut row = [0; SIZE_LIMIT];
-    for k in (0..records.len()).rev() {
-        records[k].put_into(&mut row, i);
+    for record in records.iter().rev() {
+        record.put_into(&mut row, i);
     }
     row
 }

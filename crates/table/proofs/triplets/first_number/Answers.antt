@@ -1,19 +1,15 @@
-use Rattle.std.proofs.Common.{get_or, pos, sym, ◌∙◌, w64, SFits, rules}
+use Rattle.std.proofs.Common.{◌∙◌, w64, SFits, rules, tests}
 use Rattle.std.proofs.lemmas.Int.{to_z-of_z}
-use Rattle.table.proofs.Firsts.{recorded_here, recorded_past, recorded_end}
+use Rattle.std.proofs.lemmas.Iterator.{YieldsList-from_slice}
+use Rattle.std.proofs.lemmas.Iterator.Search.{find_from_yields_List}
+use Rattle.table.specs.Records.{is_for}
+use Rattle.table.proofs.Firsts.{found_number}
 use Rattle.table.proofs.triplets.first_number.Goals as goal
 
-pub returns-then-is_for : goal.returns-then-is_for
-returns-then-is_for c =
-    let fits : SFits w64 (get_or c.args.records.now c.loop-record.record-index (record { row = pos 0; column = pos 0; number = pos 0 })).number = search rules in
-    to_z-of_z w64 _ fits
-    ∙ sym (recorded_here c.args.records.now c.loop-record.record-index _ c.args.i c.args.j c.loop-record-test.true (sym c.if-is_for.ensures))
-    ∙ c.loop-record.invariant
-
-pub loop-record-preserved : goal.loop-record-preserved
-loop-record-preserved c =
-    sym (recorded_past c.args.records.now c.loop-record.record-index _ c.args.i c.args.j c.loop-record-test.true (sym c.if-is_for.ensures))
-    ∙ c.loop-record.invariant
-
 pub returns : goal.returns
-returns c = sym (recorded_end c.args.records.now c.loop-record.record-index c.args.i c.args.j c.loop-record-test.false) ∙ c.loop-record.invariant
+returns c =
+    let fits : SFits w64 c.map_or.result = search rules in
+    to_z-of_z w64 _ fits
+    ∙ found_number c.args.records.now c.args.i c.args.j _ c.find.result _
+    (find_from_yields_List (λ r. is_for r c.args.i c.args.j) c.find.new.self _ c.find.result c.find.ensures.ran (YieldsList-from_slice c.args.records.now cc) (λ x b q k. search (rules, tests)))
+    c.map_or.ensures (λ y q. search (rules, tests))

@@ -1,20 +1,21 @@
-use Rattle.std.proofs.Common.{◌≡◌, ◌≤◌, true, get_or, pos, nat_abs, is_some, None, sym, ap, ◌∙◌, arith, w64, SFits, rules, below_more}
+use Rattle.std.proofs.Common.{◌≡◌, ◌≤◌, true, false, get_or, pos, nat_abs, is_some, None, sym, ap, ◌∙◌, arith, w64, SFits, rules, below_more}
 use Rattle.std.proofs.lemmas.Int.{to_z-of_z}
+use Rattle.std.proofs.lemmas.Bool.{leb-true, leb-false}
 use Rattle.duality.specs.Lists.{places}
+use Rattle.duality.specs.Tests.{within}
 use Rattle.table.specs.Grid.{place_of, product_of, width_of}
 use Rattle.table.specs.Laws.{Multiplies}
 use Rattle.table.proofs.Along.{sum_to, term_fits, sum_fits, sum_more, some_more, none_not}
 use Rattle.table.proofs.Products.{product_none, product_lawful, multiplies_product}
-use Rattle.table.proofs.Integers.{abs_held, mul_held}
+use Rattle.table.proofs.Integers.{mul_held}
 use Rattle.table.proofs.interface.Table.product.Goals as goal
 
-pub returns-then-unsigned_abs-gt-FACTOR_LIMIT : goal.returns-then-unsigned_abs-gt-FACTOR_LIMIT
-returns-then-unsigned_abs-gt-FACTOR_LIMIT g c =
+pub returns-then-not-within : goal.returns-then-not-within
+returns-then-not-within g c =
     let grid = g.Self.Table.meant c.args.self.now in
-    let fx : SFits w64 (get_or c.args.xs.now c.loop-j.j (pos 0)) = search rules in
-    let x : c.unsigned_abs.result ≡ nat_abs (get_or c.args.xs.now c.loop-j.j (pos 0)) = c.unsigned_abs.ensures.value ∙ ap nat_abs (to_z-of_z w64 _ fx) in
+    let far : within 1073741824 (places c.args.xs.now c.loop-j.j) ≡ false = search (rules, to_z-of_z) in
     let e : None ≡ product_of grid c.args.i c.args.xs.now =
-    sym (product_none grid c.args.i c.args.xs.now (λ s m. let l = m.long in omega (arith, m.near c.loop-j.j (omega arith)))) in
+    sym (product_none grid c.args.i c.args.xs.now (λ s m. let l = m.long in omega (arith, leb-false _ _ far, m.near c.loop-j.j (omega arith)))) in
     let p = product_lawful grid c.args.i c.args.xs.now None e in
     record { value = e; bound = tt; exactly = p.1 }
 
@@ -33,14 +34,16 @@ pub overflow_mul-sum : goal.overflow_mul-sum
 overflow_mul-sum g c =
     let fn : SFits w64 c.in_ok-number.number = search rules in
     let fx : SFits w64 (get_or c.args.xs.now c.loop-j.j (pos 0)) = search rules in
-    let m = abs_held (get_or c.args.xs.now c.loop-j.j (pos 0)) _ 1073741824 fx c.unsigned_abs.ensures.value c.if-unsigned_abs-gt-FACTOR_LIMIT.false in
+    let near : within 1073741824 (get_or c.args.xs.now c.loop-j.j (pos 0)) ≡ true = search (rules, to_z-of_z) in
+    let m = leb-true _ _ near in
     simp to_z-of_z (term_fits c.in_ok-number.number (get_or c.args.xs.now c.loop-j.j (pos 0)) c.in_ok-number.ensures.bound m)
 
 pub overflow_add-sum : goal.overflow_add-sum
 overflow_add-sum g c =
     let fn : SFits w64 c.in_ok-number.number = search rules in
     let fx : SFits w64 (get_or c.args.xs.now c.loop-j.j (pos 0)) = search rules in
-    let m = abs_held (get_or c.args.xs.now c.loop-j.j (pos 0)) _ 1073741824 fx c.unsigned_abs.ensures.value c.if-unsigned_abs-gt-FACTOR_LIMIT.false in
+    let near : within 1073741824 (get_or c.args.xs.now c.loop-j.j (pos 0)) ≡ true = search (rules, to_z-of_z) in
+    let m = leb-true _ _ near in
     let f = term_fits c.in_ok-number.number (get_or c.args.xs.now c.loop-j.j (pos 0)) c.in_ok-number.ensures.bound m in
     sum_fits (g.Self.Table.meant c.args.self.now) c.args.i c.loop-j.j c.args.xs.now _ _ c.in_ok-number.number (get_or c.args.xs.now c.loop-j.j (pos 0))
     c.loop-j.invariant.0 (mul_held _ _ fn fx f) c.loop-j.invariant.2 (omega arith) c.in_ok-number.ensures.bound m
@@ -50,7 +53,8 @@ loop-j-preserved g c =
     let grid = g.Self.Table.meant c.args.self.now in
     let fn : SFits w64 c.in_ok-number.number = search rules in
     let fx : SFits w64 (get_or c.args.xs.now c.loop-j.j (pos 0)) = search rules in
-    let m = abs_held (get_or c.args.xs.now c.loop-j.j (pos 0)) _ 1073741824 fx c.unsigned_abs.ensures.value c.if-unsigned_abs-gt-FACTOR_LIMIT.false in
+    let near : within 1073741824 (get_or c.args.xs.now c.loop-j.j (pos 0)) ≡ true = search (rules, to_z-of_z) in
+    let m = leb-true _ _ near in
     let f = term_fits c.in_ok-number.number (get_or c.args.xs.now c.loop-j.j (pos 0)) c.in_ok-number.ensures.bound m in
     let here = c.in_ok-number.ensures.value in (
       to_z-of_z w64 _ (overflow_add-sum g c) ∙ sum_more grid c.args.i c.loop-j.j c.args.xs.now _ _ c.in_ok-number.number c.loop-j.invariant.0 (mul_held _ _ fn fx f) here,
