@@ -12,6 +12,7 @@ mod rounds;
 mod runs;
 mod steps;
 mod systems;
+mod working;
 
 pub use exchanges::Exchange;
 pub use members::{Choice, End, Limit, Member, Offer, Report, Side, Step};

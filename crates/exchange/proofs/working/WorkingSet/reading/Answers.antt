@@ -6,37 +6,37 @@ use Rattle.exchange.specs.Rounding.{pulled, pressed}
 use Rattle.exchange.specs.Choice.{chosen}
 use Rattle.exchange.specs.Offers.{pulls_of, multipliers, filled}
 use Rattle.exchange.proofs.Readings.{front, pulls_long, pressures_long, pulls_same, pressures_same, pulls_point, offer_is}
-use Rattle.exchange.proofs.steps.reading.Goals as goal
+use Rattle.exchange.proofs.working.WorkingSet.reading.Goals as goal
 
 pub choose-choice-requires : goal.choose-choice-requires
 choose-choice-requires c =
-    let j = c.args.job.now in
+    let j = c.args.self.now.job.now in
     let X = c.args.unknowns.now in
     let n = j.ropes in
-    let m = length c.args.members.now in
+    let m = length c.args.self.now.members.now in
     let h : n + m ≤ length X = omega (arith, j.some.1) in
     let P : List ℤ → Type 0 = λ z. many_within n 1073741824 z ≡ true in
     let l = pulls_long n m X h in
     let k = pressures_long n m X h in
     record {
-      point = subst P (sym (front 16 n (pulled (take n X)) c.pulls_of-pulls.result l c.pulls_of-pulls.ensures)) (pulls_point n m X h c.requires.inside);
+      point = subst P (sym (front 16 n (pulled (take n X)) c.pulls_of-pulls.result l c.pulls_of-pulls.ensures)) (pulls_point n m X h c.requires);
       pressures = ap length (front 16 m (pressed (take m (drop n X))) c.pressures_of-pressures.result k c.pressures_of-pressures.ensures) ∙ k;
     }
 
 pub multipliers_of-multipliers-requires : goal.multipliers_of-multipliers-requires
 multipliers_of-multipliers-requires c =
-    let j = c.args.job.now in
+    let j = c.args.self.now.job.now in
     let X = c.args.unknowns.now in
     let n = j.ropes in
-    let m = length c.args.members.now in
+    let m = length c.args.self.now.members.now in
     let h : n + m ≤ length X = omega (arith, j.some.1) in
     let k = pressures_long n m X h in
     ap length (front 16 m (pressed (take m (drop n X))) c.pressures_of-pressures.result k c.pressures_of-pressures.ensures) ∙ k
 
 pub returns : goal.returns
 returns c =
-    let j = c.args.job.now in
-    let ms = c.args.members.now in
+    let j = c.args.self.now.job.now in
+    let ms = c.args.self.now.members.now in
     let X = c.args.unknowns.now in
     let n = j.ropes in
     let m = length ms in

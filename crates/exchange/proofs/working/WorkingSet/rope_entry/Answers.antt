@@ -3,14 +3,14 @@ use Rattle.std.proofs.lemmas.List.{get_or_default}
 use Rattle.std.proofs.lemmas.Int.{to_z-of_z}
 use Rattle.job.specs.Numbers.{problem_of}
 use Rattle.exchange.specs.Members.{weight}
-use Rattle.exchange.proofs.systems.rope_entry.Goals as goal
+use Rattle.exchange.proofs.working.WorkingSet.rope_entry.Goals as goal
 
-pub returns-then-k-job-2 : goal.returns-then-k-job-2
-returns-then-k-job-2 c =
-    let j = c.args.job.now in
-    let ms = c.args.members.now in
+pub returns-then-k-ropes-2 : goal.returns-then-k-ropes-2
+returns-then-k-ropes-2 c =
+    let j = c.args.self.now.job.now in
+    let ms = c.args.self.now.members.now in
     let k = c.args.k in
-    let a : ltb k j.ropes ≡ false = le-ltb k j.ropes c.if-k-job.false in
+    let a : ltb k j.ropes ≡ false = le-ltb k j.ropes c.if-k-ropes.false in
     let b : ltb k (j.ropes + length ms) ≡ true = lt-ltb k (j.ropes + length ms) (omega arith) in
     let f : SFits w64 c.negated.result = search rules in
     let g : SFits w64 c.weight.result = search rules in
