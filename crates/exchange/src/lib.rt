@@ -8,6 +8,7 @@ mod choices;
 mod exchanges;
 mod members;
 mod offers;
+mod rounded;
 mod rounds;
 mod runs;
 mod steps;

@@ -7,10 +7,10 @@ ghost use Rattle.exchange.specs.Choice.{ChosenWell};
 ghost use Rattle.exchange.specs.Offers.{offered, pulls_of};
 ghost use Rattle.exchange.specs.Steps.{changed, Follows, choice_at, fits, step_of, smallest_after, members_after, OffersInside};
 
-use crate::choices::choose;
 use crate::exchanges::Exchange;
 use crate::members::{Choice, Offer, Step};
-use crate::offers::{multipliers_of, point_of, pressures_of, pulls_of};
+use crate::offers::{point_of, pressures_of, pulls_of};
+use crate::rounded::Rounded;
 use crate::working::WorkingSet;
 use elimination::{LARGEST, solve};
 use job::Job;
@@ -28,14 +28,15 @@ impl WorkingSet<'_> {
         let (job, members) = (self.job, self.members);
         let pulls = pulls_of(unknowns, job.ropes);
         let pressures = pressures_of(unknowns, job.ropes, members.len());
-        let choice = choose(
+        let rounded = Rounded {
             job,
             members,
-            &pulls[0..job.ropes],
-            &pressures[0..members.len()],
-        );
+            pulls: &pulls[0..job.ropes],
+            pressures: &pressures[0..members.len()],
+        };
+        let choice = rounded.choose();
+        let multipliers = rounded.multipliers();
         let point = point_of(job, pulls);
-        let multipliers = multipliers_of(job, members, &pressures[0..members.len()]);
         (Offer { point, multipliers }, choice)
     }
 }

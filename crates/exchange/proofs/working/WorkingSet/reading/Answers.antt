@@ -8,8 +8,8 @@ use Rattle.exchange.specs.Offers.{pulls_of, multipliers, filled}
 use Rattle.exchange.proofs.Readings.{front, pulls_long, pressures_long, pulls_same, pressures_same, pulls_point, offer_is}
 use Rattle.exchange.proofs.working.WorkingSet.reading.Goals as goal
 
-pub choose-choice-requires : goal.choose-choice-requires
-choose-choice-requires c =
+pub invariant_of-rounded : goal.invariant_of-rounded
+invariant_of-rounded c =
     let j = c.args.self.now.job.now in
     let X = c.args.unknowns.now in
     let n = j.ropes in
@@ -20,18 +20,8 @@ choose-choice-requires c =
     let k = pressures_long n m X h in
     record {
       point = subst P (sym (front 16 n (pulled (take n X)) c.pulls_of-pulls.result l c.pulls_of-pulls.ensures)) (pulls_point n m X h c.requires);
-      pressures = ap length (front 16 m (pressed (take m (drop n X))) c.pressures_of-pressures.result k c.pressures_of-pressures.ensures) ∙ k;
+      paired = ap length (front 16 m (pressed (take m (drop n X))) c.pressures_of-pressures.result k c.pressures_of-pressures.ensures) ∙ k;
     }
-
-pub multipliers_of-multipliers-requires : goal.multipliers_of-multipliers-requires
-multipliers_of-multipliers-requires c =
-    let j = c.args.self.now.job.now in
-    let X = c.args.unknowns.now in
-    let n = j.ropes in
-    let m = length c.args.self.now.members.now in
-    let h : n + m ≤ length X = omega (arith, j.some.1) in
-    let k = pressures_long n m X h in
-    ap length (front 16 m (pressed (take m (drop n X))) c.pressures_of-pressures.result k c.pressures_of-pressures.ensures) ∙ k
 
 pub returns : goal.returns
 returns c =
@@ -49,9 +39,9 @@ returns c =
     let y = front 16 m (pressed (take m (drop n X))) c.pressures_of-pressures.result k c.pressures_of-pressures.ensures in
     record {
       offer =
-          offer_is Q ms us (pulled (take n X)) (pressed (take m (drop n X))) c.point_of-point.result c.multipliers_of-multipliers.result c.pulls_of-pulls.result
+          offer_is Q ms us (pulled (take n X)) (pressed (take m (drop n X))) c.point_of-point.result c.multipliers-multipliers.result c.pulls_of-pulls.result
           l (pulls_same n m X h) (pressures_same n m X h) c.pulls_of-pulls.ensures c.point_of-point.ensures (length-map-range_with_len _ 0 n)
-          (c.multipliers_of-multipliers.ensures ∙ ap (λ z. filled 32 (multipliers Q ms z)) y);
+          (c.multipliers-multipliers.ensures ∙ ap (λ z. filled 32 (multipliers Q ms z)) y);
       choice = c.choose-choice.ensures ∙ ap (λ z. chosen Q ms z (take (m - 0) c.pressures_of-pressures.result)) (x ∙ pulls_same n m X h) ∙ ap (λ z. chosen Q ms (pulls_of Q us) z)
           (y ∙ pressures_same n m X h);
     }

@@ -5,13 +5,13 @@ use Rattle.job.specs.Numbers.{problem_of}
 use Rattle.exchange.specs.Members.{low, high}
 use Rattle.exchange.specs.Breaches.{value_at, side_of}
 use Rattle.exchange.proofs.Choosing.{breach_is}
-use Rattle.exchange.proofs.breaches.breach.Goals as goal
-use Rattle.exchange.proofs.breaches.breach.Goals.{then-s-lower, else-s-lower}
+use Rattle.exchange.proofs.rounded.Rounded.breach.Goals as goal
+use Rattle.exchange.proofs.rounded.Rounded.breach.Goals.{then-s-lower, else-s-lower}
 
 pub returns : goal.returns
 returns c =
-    let P = problem_of c.args.job.now in
-    let z = c.args.pulls.now in
+    let P = problem_of c.args.self.now.job.now in
+    let z = c.args.self.now.pulls.now in
     let v = c.args.limit in
     let fl : SFits w64 c.held_at-lower.result = search rules in
     let fh : SFits w64 c.held_at-upper.result = search rules in

@@ -10,24 +10,24 @@ use Rattle.job.proofs.Reading.{point_small}
 use Rattle.exchange.specs.Members.{Of}
 use Rattle.exchange.specs.declared.members.Limit.{Limit}
 use Rattle.exchange.proofs.Choosing.{answer_or, row_small}
-use Rattle.exchange.proofs.breaches.value_at.Goals as goal
+use Rattle.exchange.proofs.rounded.Rounded.value_at.Goals as goal
 
 pub returns-in-Row-clause-small : goal.returns-in-Row-clause-small
 returns-in-Row-clause-small c =
-    let j = c.args.job.now in
-    let z = c.args.pulls.now in
+    let j = c.args.self.now.job.now in
+    let z = c.args.self.now.pulls.now in
     let i = c.in-Row.i in
     let P : Limit → Type 0 = Of j.ropes j.rows in
-    let h = subst P c.in-Row.is c.requires.limit in
+    let h = subst P c.in-Row.is c.requires in
     let f : SFits w64 c.unwrap_or.result = search rules in
-    let b : (ltb i j.rows && many_within j.ropes 1073741824 z) ≡ true = and_from _ _ (lt-ltb _ _ h) c.requires.point in
+    let b : (ltb i j.rows && many_within j.ropes 1073741824 z) ≡ true = and_from _ _ (lt-ltb _ _ h) c.args.self.now.point in
     let o = answer_or _ (row_at (problem_of j) (places z) i) b in
     let e = to_z-of_z w64 _ f ∙ c.unwrap_or.ensures ∙ ap (λ x. unwrap_or x (pos 0)) c.row_sum.ensures ∙ o in
-    omega (arith, ap nat_abs e, row_small j z i c.requires.point h)
+    omega (arith, ap nat_abs e, row_small j z i c.args.self.now.point h)
 
 pub returns-in-Bound-clause-small : goal.returns-in-Bound-clause-small
 returns-in-Bound-clause-small c =
-    let j = c.args.job.now in
-    let z = c.args.pulls.now in
+    let j = c.args.self.now.job.now in
+    let z = c.args.self.now.pulls.now in
     let f : SFits w64 (places z c.in-Bound.j) = search rules in
-    omega (arith, ap nat_abs (to_z-of_z w64 _ f), point_small j.ropes 1073741824 z c.requires.point c.in-Bound.j)
+    omega (arith, ap nat_abs (to_z-of_z w64 _ f), point_small j.ropes 1073741824 z c.args.self.now.point c.in-Bound.j)

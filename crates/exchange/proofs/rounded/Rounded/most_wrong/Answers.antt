@@ -7,13 +7,13 @@ use Rattle.exchange.specs.Systems.{member_at}
 use Rattle.exchange.specs.Breaches.{upto}
 use Rattle.exchange.specs.Choice.{wrongness, more_wrong, unwronged, most_wrong}
 use Rattle.exchange.proofs.Choosing.{wrong_taken, wrong_left}
-use Rattle.exchange.proofs.choices.most_wrong.Goals as goal
-use Rattle.exchange.proofs.choices.most_wrong.Goals.{then-size-most, else-size-most}
+use Rattle.exchange.proofs.rounded.Rounded.most_wrong.Goals as goal
+use Rattle.exchange.proofs.rounded.Rounded.most_wrong.Goals.{then-size-most, else-size-most}
 
 pub loop-k-preserved : goal.loop-k-preserved
 loop-k-preserved c =
-    let ms = c.args.members.now in
-    let ys = c.args.pressures.now in
+    let ms = c.args.self.now.members.now in
+    let ys = c.args.self.now.pressures.now in
     let k = c.loop-k.k in
     let f : SFits w64 (places ys k) = search rules in
     let q : c.wrongness-size.result ≡ wrongness (member_at ms k).side (places ys k) =
@@ -26,5 +26,5 @@ loop-k-preserved c =
 pub returns : goal.returns
 unfolding most_wrong
 returns c =
-    let e : c.loop-k.k ≡ length c.args.members.now = omega arith in
-    c.loop-k.invariant ∙ ap (λ (n : ℕ). upto (more_wrong c.args.members.now c.args.pressures.now) unwronged n) e
+    let e : c.loop-k.k ≡ length c.args.self.now.members.now = omega arith in
+    c.loop-k.invariant ∙ ap (λ (n : ℕ). upto (more_wrong c.args.self.now.members.now c.args.self.now.pressures.now) unwronged n) e

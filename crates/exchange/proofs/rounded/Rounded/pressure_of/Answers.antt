@@ -6,7 +6,7 @@ use Rattle.std.specs.Iterator.Adapters.{zip_first, zip_second}
 use Rattle.exchange.specs.Breaches.{same}
 use Rattle.exchange.specs.Offers.{inside_limit}
 use Rattle.exchange.proofs.Folds.{pressure_more, pressure_here, pressure_none}
-use Rattle.exchange.proofs.offers.pressure_of.Goals as goal
+use Rattle.exchange.proofs.rounded.Rounded.pressure_of.Goals as goal
 
 pub loop-member-init : goal.loop-member-init
 loop-member-init c =
