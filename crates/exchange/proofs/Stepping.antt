@@ -7,7 +7,7 @@ use Rattle.std.specs.Option.{option_map}
 use Rattle.duality.specs.Problem.{Problem}
 use Rattle.job.specs.Numbers.{has_sizes}
 use Rattle.elimination.specs.Lines.{seen, at, inside, solved, solved_in, padded, Solves}
-use Rattle.exchange.specs.Systems.{system_of}
+use Rattle.exchange.specs.Systems.{size_of, system_of}
 use Rattle.exchange.specs.Offers.{offered}
 use Rattle.exchange.specs.Steps.{solved_at, choice_at, step_of, smallest_after}
 use Rattle.exchange.specs.declared.members.Member.{Member}
@@ -19,11 +19,11 @@ abbrev pub Pair : Type 0
 Pair = Float × Option (List Float)
 
 -- the system that was written in the square is the working set's
-pub system_solved : (P : Problem) (ms vs : List Member) (k : ℕ) (s : Float) (L : List (List Float)) → vs ≡ ms → k ≡ length ms → P.ropes + length ms ≤ 32 →
-    seen (P.ropes + length vs + 1) (take (P.ropes + length vs) L) ≡ system_of P vs → ◌≡◌ {A = Pair} (solved_in (P.ropes + k) s L) (solved_at P ms s)
-system_solved P ms vs k s L e l h q =
-    let R : List Member → Type 0 = λ us. seen (P.ropes + length us + 1) (take (P.ropes + length us) L) ≡ system_of P us in
-    let b : leb (P.ropes + length ms) 32 ≡ true = le-leb _ _ h in
+pub system_solved : (P : Problem) (ms vs : List Member) (n : ℕ) (s : Float) (L : List (List Float)) → vs ≡ ms → n ≡ size_of P ms → size_of P ms ≤ 32 →
+    seen (size_of P vs + 1) (take (size_of P vs) L) ≡ system_of P vs → ◌≡◌ {A = Pair} (solved_in n s L) (solved_at P ms s)
+system_solved P ms vs n s L e l h q =
+    let R : List Member → Type 0 = λ us. seen (size_of P us + 1) (take (size_of P us) L) ≡ system_of P us in
+    let b : leb (size_of P ms) 32 ≡ true = le-leb _ _ h in
     rw (l, b) (ap (solved s) (subst R e q))
 
 pub none_from : (o : Option (List Float)) → ◌≡◌ {A = Option (List Float)} None (option_map padded o) → o ≡ None

@@ -8,10 +8,12 @@ mod choices;
 mod exchanges;
 mod members;
 mod offers;
+mod rounded;
 mod rounds;
 mod runs;
 mod steps;
 mod systems;
+mod working;
 
 pub use exchanges::Exchange;
 pub use members::{Choice, End, Limit, Member, Offer, Report, Side, Step};

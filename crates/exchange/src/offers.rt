@@ -5,7 +5,8 @@ ghost use Rattle.job.specs.Numbers.{problem_of};
 ghost use Rattle.exchange.specs.Rounding.{pulled, pressed};
 ghost use Rattle.exchange.specs.Offers.{filled, inside_bounds, inside_limit, pressure_of, multipliers as multipliers_of};
 
-use crate::members::{Limit, Member};
+use crate::members::Limit;
+use crate::rounded::Rounded;
 use crate::rounds::{round_pressures, round_pulls};
 use job::Job;
 
@@ -47,33 +48,33 @@ fn inside_limit(pressure: i64) -> i64
     (-LIMIT).max(LIMIT.min(pressure))
 }
 
-/// The multiplier of the member that holds a limit, or 0.
-fn pressure_of(members: &[Member], pressures: &[i64], limit: Limit) -> i64
-    requires { length pressures.now ≡ length members.now }
-    ensures { result ≡ pressure_of members.now pressures.now limit }
-{
-    for (member, pressure) in members.iter().zip(pressures) {
-        if member.limit == limit {
-            return inside_limit(*pressure);
+impl Rounded<'_> {
+    /// The multiplier of the member that holds a limit, or 0.
+    fn pressure_of(&self, limit: Limit) -> i64
+        ensures { result ≡ pressure_of self.now.members.now self.now.pressures.now limit }
+    {
+        for (member, pressure) in self.members.iter().zip(self.pressures) {
+            if member.limit == limit {
+                return inside_limit(*pressure);
+            }
+        }
+        0
+    }
+
+    fn fill_multipliers(&self, multipliers: &mut [i64])
+        ensures { multipliers.new ≡ map (λ i. pressure_of self.now.members.now self.now.pressures.now (Limit.Row i)) (range_with_len 0 (length multipliers.old)) }
+    {
+        for (i, multiplier) in multipliers.iter_mut().enumerate() {
+            *multiplier = self.pressure_of(Limit::Row(i));
         }
     }
-    0
-}
 
-fn fill_multipliers(multipliers: &mut [i64], members: &[Member], pressures: &[i64])
-    requires { length pressures.now ≡ length members.now }
-    ensures { multipliers.new ≡ map (λ i. pressure_of members.now pressures.now (Limit.Row i)) (range_with_len 0 (length multipliers.old)) }
-{
-    for i in 0..multipliers.len() {
-        multipliers[i] = pressure_of(members, pressures, Limit::Row(i));
+    /// A multiplier for each row of the job.
+    pub(crate) fn multipliers(&self) -> [i64; 32]
+        ensures { result ≡ filled 32 (multipliers_of (problem_of self.now.job.now) self.now.members.now self.now.pressures.now) }
+    {
+        let mut multipliers = [0; 32];
+        self.fill_multipliers(&mut multipliers[0..self.job.rows]);
+        multipliers
     }
-}
-
-pub(crate) fn multipliers_of(job: &Job, members: &[Member], pressures: &[i64]) -> [i64; 32]
-    requires { length pressures.now ≡ length members.now }
-    ensures { result ≡ filled 32 (multipliers_of (problem_of job.now) members.now pressures.now) }
-{
-    let mut multipliers = [0; 32];
-    fill_multipliers(&mut multipliers[0..job.rows], members, pressures);
-    multipliers
 }

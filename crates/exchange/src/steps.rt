@@ -2,38 +2,43 @@
 ghost use Rattle.std.specs.Prelude.{◌≡◌, ℕ, ◌+◌, ◌<◌, ◌≤◌, true, List, [], length, take, IfOk, Float};
 ghost use Rattle.job.specs.Numbers.{problem_of};
 ghost use Rattle.elimination.specs.Lines.{at, inside, largest};
-ghost use Rattle.exchange.specs.Members.{OfAll};
+ghost use Rattle.exchange.specs.Systems.{size_of};
 ghost use Rattle.exchange.specs.Choice.{ChosenWell};
 ghost use Rattle.exchange.specs.Offers.{offered, pulls_of};
 ghost use Rattle.exchange.specs.Steps.{changed, Follows, choice_at, fits, step_of, smallest_after, members_after, OffersInside};
 
-use crate::choices::choose;
 use crate::exchanges::Exchange;
-use crate::members::{Choice, Member, Offer, Step};
-use crate::offers::{multipliers_of, point_of, pressures_of, pulls_of};
-use crate::systems::system;
+use crate::members::{Choice, Offer, Step};
+use crate::offers::{point_of, pressures_of, pulls_of};
+use crate::rounded::Rounded;
+use crate::working::WorkingSet;
 use elimination::{LARGEST, solve};
 use job::Job;
 use std::alloc::{AllocError, Global};
 
-/// What the unknowns of a solved system offer, and how the working set changes.
-fn reading(job: &Job, members: &[Member], unknowns: &[f64; 32]) -> (Offer, Choice)
-    requires few { length members.now ≤ 16 }
-    requires inside { (k : ℕ) → k < job.now.ropes + length members.now → inside (at unknowns.now k) ≡ true }
-    ensures offer { result.0 ≡ offered (problem_of job.now) members.now (take (job.now.ropes + length members.now) unknowns.now) }
-    ensures choice { result.1 ≡ choice_at (problem_of job.now) members.now (take (job.now.ropes + length members.now) unknowns.now) }
-{
-    let pulls = pulls_of(unknowns, job.ropes);
-    let pressures = pressures_of(unknowns, job.ropes, members.len());
-    let choice = choose(
-        job,
-        members,
-        &pulls[0..job.ropes],
-        &pressures[0..members.len()],
-    );
-    let point = point_of(job, pulls);
-    let multipliers = multipliers_of(job, members, &pressures[0..members.len()]);
-    (Offer { point, multipliers }, choice)
+impl WorkingSet<'_> {
+    /// What the unknowns of the solved system offer, and how the working set changes.
+    fn reading(&self, unknowns: &[f64; 32]) -> (Offer, Choice)
+        requires { (k : ℕ) → k < size_of (problem_of self.now.job.now) self.now.members.now → inside (at unknowns.now k) ≡ true }
+        ensures offer { result.0 ≡ offered (problem_of self.now.job.now) self.now.members.now
+            (take (size_of (problem_of self.now.job.now) self.now.members.now) unknowns.now) }
+        ensures choice { result.1 ≡ choice_at (problem_of self.now.job.now) self.now.members.now
+            (take (size_of (problem_of self.now.job.now) self.now.members.now) unknowns.now) }
+    {
+        let (job, members) = (self.job, self.members);
+        let pulls = pulls_of(unknowns, job.ropes);
+        let pressures = pressures_of(unknowns, job.ropes, members.len());
+        let rounded = Rounded {
+            job,
+            members,
+            pulls: &pulls[0..job.ropes],
+            pressures: &pressures[0..members.len()],
+        };
+        let choice = rounded.choose();
+        let multipliers = rounded.multipliers();
+        let point = point_of(job, pulls);
+        (Offer { point, multipliers }, choice)
+    }
 }
 
 impl Exchange {
@@ -90,16 +95,17 @@ impl Exchange {
         if !self.is_for(job) {
             return Step::Refused;
         }
-        let size = job.ropes + self.members.len();
-        let solution = solve(system(job, &self.members), size, self.smallest);
+        let set = WorkingSet {
+            job,
+            members: &self.members,
+        };
+        let solution = solve(set.system(), set.size(), self.smallest);
         self.smallest = solution.smallest;
-        match solution.unknowns {
-            None => Step::Stuck,
-            Some(unknowns) => {
-                let (offer, choice) = reading(job, &self.members, &unknowns);
-                self.follow(choice);
-                Step::Found(offer, choice)
-            }
-        }
+        let Some(unknowns) = solution.unknowns else {
+            return Step::Stuck;
+        };
+        let (offer, choice) = set.reading(&unknowns);
+        self.follow(choice);
+        Step::Found(offer, choice)
     }
 }

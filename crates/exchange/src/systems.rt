@@ -2,10 +2,11 @@
 ghost use Rattle.std.specs.Prelude.{◌≡◌, ℕ, ◌+◌, ◌<◌, ◌≤◌, length, take, neg_ℤ, unsigned_abs};
 ghost use Rattle.job.specs.Numbers.{problem_of};
 ghost use Rattle.elimination.specs.Lines.{seen};
-ghost use Rattle.exchange.specs.Members.{Of, OfAll, weight as weight_of, held_at};
-ghost use Rattle.exchange.specs.Systems.{member_at, rope_entry, member_entry, entry as entry_of, line_of, system_of};
+ghost use Rattle.exchange.specs.Members.{Of, weight as weight_of, held_at};
+ghost use Rattle.exchange.specs.Systems.{size_of, rope_entry, member_entry, entry as entry_of, line_of, system_of};
 
 use crate::members::{Limit, Member, Side};
+use crate::working::WorkingSet;
 use job::Job;
 use std::num::nearest_i64_to_f64;
 
@@ -67,82 +68,81 @@ pub(crate) fn held_at(job: &Job, member: Member) -> i64
     }
 }
 
-fn rope_entry(job: &Job, members: &[Member], r: usize, k: usize) -> i64
-    requires rope { r < job.now.ropes }
-    requires few { length members.now ≤ 16 }
-    requires members { OfAll job.now.ropes job.now.rows members.now }
-    ensures { result ≡ rope_entry (problem_of job.now) members.now r k }
-{
-    if k < job.ropes {
-        curve(job, r, k)
-    } else if k < job.ropes + members.len() {
-        negated(weight(job, members[k - job.ropes].limit, r))
-    } else {
-        negated(price(job, r))
+impl WorkingSet<'_> {
+    /// How many unknowns there are.
+    pub(crate) fn size(&self) -> usize
+        ensures { result ≡ size_of (problem_of self.now.job.now) self.now.members.now }
+    {
+        self.job.ropes + self.members.len()
     }
-}
 
-fn member_entry(job: &Job, members: &[Member], member: Member, k: usize) -> i64
-    requires few { length members.now ≤ 16 }
-    requires member { Of job.now.ropes job.now.rows member.limit }
-    ensures { result ≡ member_entry (problem_of job.now) members.now member k }
-{
-    if k < job.ropes {
-        weight(job, member.limit, k)
-    } else if k < job.ropes + members.len() {
-        0
-    } else {
-        held_at(job, member)
+    fn rope_entry(&self, r: usize, k: usize) -> i64
+        requires { r < self.now.job.now.ropes }
+        ensures { result ≡ rope_entry (problem_of self.now.job.now) self.now.members.now r k }
+    {
+        let ropes = self.job.ropes;
+        if k < ropes {
+            curve(self.job, r, k)
+        } else if k < ropes + self.members.len() {
+            negated(weight(self.job, self.members[k - ropes].limit, r))
+        } else {
+            negated(price(self.job, r))
+        }
     }
-}
 
-fn entry(job: &Job, members: &[Member], r: usize, k: usize) -> i64
-    requires few { length members.now ≤ 16 }
-    requires line { r < job.now.ropes + length members.now }
-    requires members { OfAll job.now.ropes job.now.rows members.now }
-    ensures { result ≡ entry_of (problem_of job.now) members.now r k }
-{
-    if r < job.ropes {
-        rope_entry(job, members, r, k)
-    } else {
-        member_entry(job, members, members[r - job.ropes], k)
+    fn member_entry(&self, member: Member, k: usize) -> i64
+        requires { Of self.now.job.now.ropes self.now.job.now.rows member.limit }
+        ensures { result ≡ member_entry (problem_of self.now.job.now) self.now.members.now member k }
+    {
+        let ropes = self.job.ropes;
+        if k < ropes {
+            weight(self.job, member.limit, k)
+        } else if k < ropes + self.members.len() {
+            0
+        } else {
+            held_at(self.job, member)
+        }
     }
-}
 
-fn fill_line(line: &mut [f64; 33], width: usize, job: &Job, members: &[Member], r: usize)
-    requires few { length members.now ≤ 16 }
-    requires row { r < job.now.ropes + length members.now }
-    requires members { OfAll job.now.ropes job.now.rows members.now }
-    requires width { width ≤ 33 }
-    ensures value { take width line.new ≡ line_of (problem_of job.now) members.now width r }
-    ensures len { length line.new ≡ 33 }
-{
-    for k in 0..width {
-        line[k] = nearest_i64_to_f64(entry(job, members, r, k));
+    fn entry(&self, r: usize, k: usize) -> i64
+        requires { r < self.now.job.now.ropes + length self.now.members.now }
+        ensures { result ≡ entry_of (problem_of self.now.job.now) self.now.members.now r k }
+    {
+        let ropes = self.job.ropes;
+        if r < ropes {
+            self.rope_entry(r, k)
+        } else {
+            self.member_entry(self.members[r - ropes], k)
+        }
     }
-}
 
-fn fill_lines(lines: &mut [[f64; 33]], job: &Job, members: &[Member])
-    requires few { length members.now ≤ 16 }
-    requires size { length lines.old ≡ job.now.ropes + length members.now }
-    requires members { OfAll job.now.ropes job.now.rows members.now }
-    ensures { seen (length lines.old + 1) lines.new ≡ system_of (problem_of job.now) members.now }
-{
-    let width = lines.len() + 1;
-    for r in 0..lines.len() {
-        fill_line(&mut lines[r], width, job, members, r);
+    fn fill_line(&self, line: &mut [f64], r: usize)
+        requires { r < self.now.job.now.ropes + length self.now.members.now }
+        ensures { line.new ≡ line_of (problem_of self.now.job.now) self.now.members.now (length line.old) r }
+    {
+        for (k, x) in line.iter_mut().enumerate() {
+            *x = nearest_i64_to_f64(self.entry(r, k));
+        }
     }
-}
 
-/// The system of a working set, in the first places of a square.
-pub(crate) fn system(job: &Job, members: &[Member]) -> [[f64; 33]; 32]
-    requires few { length members.now ≤ 16 }
-    requires members { OfAll job.now.ropes job.now.rows members.now }
-    ensures { seen (job.now.ropes + length members.now + 1) (take (job.now.ropes + length members.now) result)
-        ≡ system_of (problem_of job.now) members.now }
-{
-    let size = job.ropes + members.len();
-    let mut lines = [[0.0; 33]; 32];
-    fill_lines(&mut lines[0..size], job, members);
-    lines
+    fn fill_lines(&self, lines: &mut [[f64; 33]])
+        requires { length lines.old ≡ self.now.job.now.ropes + length self.now.members.now }
+        ensures { seen (length lines.old + 1) lines.new ≡ system_of (problem_of self.now.job.now) self.now.members.now }
+    {
+        let width = lines.len() + 1;
+        for (r, line) in lines.iter_mut().enumerate() {
+            self.fill_line(&mut line[0..width], r);
+        }
+    }
+
+    /// The system of the working set, in the first places of a square.
+    pub(crate) fn system(&self) -> [[f64; 33]; 32]
+        ensures { seen (size_of (problem_of self.now.job.now) self.now.members.now + 1)
+            (take (size_of (problem_of self.now.job.now) self.now.members.now) result)
+            ≡ system_of (problem_of self.now.job.now) self.now.members.now }
+    {
+        let mut lines = [[0.0; 33]; 32];
+        self.fill_lines(&mut lines[..self.size()]);
+        lines
+    }
 }

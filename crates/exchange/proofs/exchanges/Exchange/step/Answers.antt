@@ -3,6 +3,7 @@ use lib.Ieee.{Float}
 use Rattle.std.specs.Option.{option_map}
 use Rattle.job.specs.Numbers.{problem_of}
 use Rattle.elimination.specs.Lines.{padded, Solves}
+use Rattle.exchange.specs.Systems.{size_of}
 use Rattle.exchange.specs.Offers.{offered, pulls_of, pressures_of}
 use Rattle.exchange.specs.Steps.{Follows, choice_at, solved_at}
 use Rattle.exchange.specs.ProblemOffers.{OffersInside}
@@ -31,8 +32,8 @@ returns-then-not-is_for c =
       choice = λ us. chosen_well P (vec_items e.members) (pulls_of P us) (pressures_of P us);
     }
 
-pub returns-in-None : goal.returns-in-None
-returns-in-None c =
+pub returns-in_default : goal.returns-in_default
+returns-in_default c =
     let e = c.args.self.now in
     let j = c.args.job.now in
     let P = problem_of j in
@@ -40,8 +41,10 @@ returns-in-None c =
     let f = sym c.if-not-is_for.ensures in
     let z = sizes_fit P e.ropes e.rows ms e.smallest f in
     let h : j.ropes + length ms ≤ 32 = omega (arith, e.few, e.small, e.members.ok.0, z.0) in
-    let q = system_solved P ms c.deref.result.now c.len.result e.smallest c.system.result c.deref.ensures.value (c.len.ensures ∙ e.members.ok.0) h c.system.ensures in
-    let n = none_from (solved_at P ms e.smallest).1 (sym c.in-None.is ∙ c.solve-solution.ensures.unknowns ∙ ap (λ (p : Pair). option_map padded p.1) q) in
+    let d = c.deref.ensures.value in
+    let k : c.size.result ≡ size_of P ms = c.size.ensures ∙ ap (size_of P) d in
+    let q = system_solved P ms c.deref.result.now c.size.result e.smallest c.system.result d k h c.system.ensures in
+    let n = none_from (solved_at P ms e.smallest).1 (sym c.in_default.is ∙ c.solve-solution.ensures.unknowns ∙ ap (λ (p : Pair). option_map padded p.1) q) in
     record {
       value = step_stuck P e.ropes e.rows ms e.smallest f n;
       members = refl;
@@ -61,18 +64,15 @@ reading-choice-requires c =
     let f = sym c.if-not-is_for.ensures in
     let z = sizes_fit P e.ropes e.rows ms e.smallest f in
     let h : j.ropes + length ms ≤ 32 = omega (arith, e.few, e.small, e.members.ok.0, z.0) in
-    let q = system_solved P ms c.deref.result.now c.len.result e.smallest c.system.result c.deref.ensures.value (c.len.ensures ∙ e.members.ok.0) h c.system.ensures in
+    let d = c.deref.ensures.value in
+    let k : c.size.result ≡ size_of P ms = c.size.ensures ∙ ap (size_of P) d in
+    let q = system_solved P ms c.deref.result.now c.size.result e.smallest c.system.result d k h c.system.ensures in
     let X = c.in-Some.unknowns in
     let u = some_from (solved_at P ms e.smallest).1 X (sym c.in-Some.is ∙ c.solve-solution.ensures.unknowns ∙ ap (λ (p : Pair). option_map padded p.1) q) in
     let us = u.0 in
-    let S : Option (List Float) → Type 0 = Solves (j.ropes + c.len.result) in
+    let S : Option (List Float) → Type 0 = Solves c.size.result in
     let w = subst S (ap (λ (p : Pair). p.1) q ∙ u.1.0) c.solve-solution.ensures.law in
-    let k : c.len.result ≡ length ms = c.len.ensures ∙ e.members.ok.0 in
-    let d = c.deref-in-Some.ensures.value in
-    record {
-      few = omega (arith, ap length d, e.few, e.small, e.members.ok.0);
-      inside = λ i l. array_inside (j.ropes + c.len.result) us X u.1.1 w i (omega (arith, ap length d, k));
-    }
+    λ i l. array_inside c.size.result us X u.1.1 w i (omega (arith, c.size.ensures))
 
 pub follow-requires : goal.follow-requires
 follow-requires c =
@@ -80,7 +80,7 @@ follow-requires c =
     let j = c.args.job.now in
     let P = problem_of j in
     let ms = vec_items e.members in
-    let vs = c.deref-in-Some.result.now in
+    let vs = c.deref.result.now in
     let us = take (j.ropes + length vs) c.in-Some.unknowns in
     let ch = c.reading-choice.result.1 in
     let z = sizes_fit P e.ropes e.rows ms e.smallest (sym c.if-not-is_for.ensures) in
@@ -88,10 +88,10 @@ follow-requires c =
     let B : List Member → Type 0 = λ x. Follows j.ropes j.rows x ch in
     let C : ℕ → Type 0 = λ n. Follows n j.rows ms ch in
     let D : ℕ → Type 0 = λ m. Follows e.ropes m ms ch in
-    subst D z.1 (subst C z.0 (subst B c.deref-in-Some.ensures.value (subst A (sym c.reading-choice.ensures.choice) (chosen_follows P vs (pulls_of P us) (pressures_of P us)))))
+    subst D z.1 (subst C z.0 (subst B c.deref.ensures.value (subst A (sym c.reading-choice.ensures.choice) (chosen_follows P vs (pulls_of P us) (pressures_of P us)))))
 
-pub returns-in-Some : goal.returns-in-Some
-returns-in-Some c =
+pub returns : goal.returns
+returns c =
     let e = c.args.self.now in
     let j = c.args.job.now in
     let P = problem_of j in
@@ -99,15 +99,15 @@ returns-in-Some c =
     let f = sym c.if-not-is_for.ensures in
     let z = sizes_fit P e.ropes e.rows ms e.smallest f in
     let h : j.ropes + length ms ≤ 32 = omega (arith, e.few, e.small, e.members.ok.0, z.0) in
-    let q = system_solved P ms c.deref.result.now c.len.result e.smallest c.system.result c.deref.ensures.value (c.len.ensures ∙ e.members.ok.0) h c.system.ensures in
+    let d = c.deref.ensures.value in
+    let k : c.size.result ≡ size_of P ms = c.size.ensures ∙ ap (size_of P) d in
+    let q = system_solved P ms c.deref.result.now c.size.result e.smallest c.system.result d k h c.system.ensures in
     let X = c.in-Some.unknowns in
     let u = some_from (solved_at P ms e.smallest).1 X (sym c.in-Some.is ∙ c.solve-solution.ensures.unknowns ∙ ap (λ (p : Pair). option_map padded p.1) q) in
     let us = u.0 in
-    let S : Option (List Float) → Type 0 = Solves (j.ropes + c.len.result) in
+    let S : Option (List Float) → Type 0 = Solves c.size.result in
     let w = subst S (ap (λ (p : Pair). p.1) q ∙ u.1.0) c.solve-solution.ensures.law in
-    let k : c.len.result ≡ length ms = c.len.ensures ∙ e.members.ok.0 in
-    let d = c.deref-in-Some.ensures.value in
-    let r : take (j.ropes + length ms) X ≡ us = ap (λ (i : ℕ). take (j.ropes + i) X) (sym k) ∙ array_front (j.ropes + c.len.result) us X u.1.1 w in
+    let r : take (j.ropes + length ms) X ≡ us = ap (λ (i : ℕ). take i X) (sym k) ∙ array_front c.size.result us X u.1.1 w in
     let o = c.reading-choice.ensures.offer ∙ ap (λ (x : List Member). offered P x (take (j.ropes + length x) X)) d ∙ ap (offered P ms) r in
     let L : Offer → Type 0 = λ y. OffersInside (problem_of j) (Found y c.reading-choice.result.1) in
     record {
@@ -118,6 +118,6 @@ returns-in-Some c =
       smallest = c.follow.ensures.smallest ∙ smallest_noted P e.ropes e.rows ms e.smallest _ f (c.solve-solution.ensures.smallest ∙ ap (λ (p : Pair). p.0) q);
       ropes = c.follow.ensures.ropes;
       rows = c.follow.ensures.rows;
-      law = subst L (sym o) (offered_inside j ms us c.reading-choice.result.1 (omega (arith, w.0)));
+      law = subst L (sym o) (offered_inside j ms us c.reading-choice.result.1 (omega (arith, w.0, k)));
       choice = λ us. chosen_well P ms (pulls_of P us) (pressures_of P us);
     }

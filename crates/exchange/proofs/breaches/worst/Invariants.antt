@@ -1,8 +1,0 @@
-use Rattle.std.proofs.Common.{◌≡◌}
-use Rattle.job.specs.Numbers.{problem_of}
-use Rattle.exchange.specs.Breaches.{upto, worse, worst_row}
-use Rattle.exchange.specs.declared.members.Limit.TheVariants.{Bound}
-use Rattle.exchange.proofs.breaches.worst.Given as goal
-
-abbrev pub invariant-loop-j : goal.invariant-loop-j
-invariant-loop-j l = l.best ≡ upto (λ b j. worse (problem_of l.job) l.members l.pulls b (Bound j)) (worst_row (problem_of l.job) l.members l.pulls) l.j

@@ -1,7 +1,0 @@
-use Rattle.std.proofs.Common.{◌≡◌}
-use Rattle.exchange.specs.Breaches.{upto}
-use Rattle.exchange.specs.Choice.{more_wrong, unwronged}
-use Rattle.exchange.proofs.choices.most_wrong.Given as goal
-
-abbrev pub invariant-loop-k : goal.invariant-loop-k
-invariant-loop-k l = l.most ≡ upto (more_wrong l.members l.pressures) unwronged l.k

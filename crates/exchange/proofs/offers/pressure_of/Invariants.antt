@@ -1,9 +1,0 @@
-use Rattle.std.proofs.Common.{◌≡◌}
-use Rattle.std.specs.Slice.Iter.{iter_rest}
-use Rattle.std.specs.Iterator.Adapters.{zip_first, zip_second}
-use Rattle.exchange.specs.Offers.{pressure_of}
-use Rattle.exchange.proofs.offers.pressure_of.Given as goal
-
--- the members that are left give the answer
-abbrev pub invariant-loop-member : goal.invariant-loop-member
-invariant-loop-member l = pressure_of (iter_rest (zip_first l.member-iterator)) (iter_rest (zip_second l.member-iterator)) l.limit ≡ pressure_of l.members l.pressures l.limit

@@ -1,0 +1,16 @@
+use Rattle.std.proofs.Common.{ℕ, map, pos, ap, ◌∙◌}
+use Rattle.std.specs.List.{range_with_len}
+use Rattle.job.specs.Numbers.{problem_of}
+use Rattle.exchange.specs.Offers.{pressure_of, multipliers}
+use Rattle.exchange.specs.declared.members.Limit.TheVariants.{Row}
+use Rattle.exchange.proofs.Filling.{zeros_long, filled_is}
+use Rattle.exchange.proofs.rounded.Rounded.multipliers.Goals as goal
+
+pub returns : goal.returns
+returns c =
+    let j = c.args.self.now.job.now in
+    let ms = c.args.self.now.members.now in
+    let ys = c.args.self.now.pressures.now in
+    let l = zeros_long (pos 0) 32 j.rows j.few in
+    filled_is 32 j.rows c.fill_multipliers.new.multipliers (multipliers (problem_of j) ms ys)
+    (c.fill_multipliers.auto.multipliers ∙ l) (c.fill_multipliers.ensures ∙ ap (λ (n : ℕ). map (λ i. pressure_of ms ys (Row i)) (range_with_len 0 n)) l)
