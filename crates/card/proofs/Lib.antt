@@ -4,3 +4,4 @@ pub mod Laying
 pub mod Passing
 pub mod Filling
 pub mod Holding
+pub mod Checking

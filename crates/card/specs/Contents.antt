@@ -1,5 +1,5 @@
 -- What is to be written on a card.
-use Rattle.std.specs.Prelude.{◌≡◌, ℕ, Bool, true, false, cond, List, [], ◌∷◌, ◌++◌, length, drop, ℤ, pos, Some, None, Ok, Err, vec_items, Option, Result, nat_le}
+use Rattle.std.specs.Prelude.{◌≡◌, ℕ, cond, List, [], ◌∷◌, ◌++◌, length, drop, ℤ, pos, Some, None, Ok, Err, vec_items, Option, Result, nat_le}
 use Rattle.block.specs.declared.fault.Fault.{Fault}
 use Rattle.block.specs.declared.fault.Fault.TheVariants.{Short}
 use Rattle.section.specs.declared.kind.Kind.{Kind}
@@ -26,11 +26,6 @@ numbers x =
 -- contents are made of sections that have as many numbers as the sizes ask for, and of no others
 abbrev pub Counted : Sizes → (Kind → List ℤ) → Type 0
 Counted s nums = (kind : Kind) → length (nums kind) ≡ numbers_for s kind
-
--- a test tells whether P holds
-abbrev pub Tells : Bool → Type 0 → Type 0
-Tells true P = P
-Tells false P = P → ⊥
 
 abbrev pub Built : Option Contents → Sizes → (Kind → List ℤ) → Type 0
 Built None s nums = Counted s nums → ⊥

@@ -12,10 +12,7 @@ fn block_at(card: &[u8], number: u16) -> Block
     requires { number * 512 + 512 ≤ length card.now }
     ensures { result.bytes ≡ block_at card.now number }
 {
-    match Block::read(card, number) {
-        Some(block) => block,
-        None => unreachable(),
-    }
+    Block::read(card, number).unwrap()
 }
 
 /// Whether a length is 1 to 15 whole blocks.
@@ -23,7 +20,7 @@ fn check_length(len: usize) -> Result<(), Fault>
     ensures value { result ≡ length_check len }
     ensures enough { OnOk result (512 ≤ len) }
 {
-    if 512 <= len && len <= 7680 && len % 512 == 0 {
+    if (512..=7680).contains(&len) && len % 512 == 0 {
         Ok(())
     } else {
         Err(Fault::Length { bytes: len })
@@ -38,7 +35,7 @@ fn sizes_in(card: &[u8]) -> Result<Sizes, Fault>
 {
     let n = number_at(card, 4).unwrap_or(0);
     let m = number_at(card, 8).unwrap_or(0);
-    if 1 <= n && n <= 16 && 0 <= m && m <= 32 {
+    if (1..=16).contains(&n) && (0..=32).contains(&m) {
         Sizes::new(n.unsigned_abs() as u16, m.unsigned_abs() as u16).ok_or(Fault::Sizes {
             block: 0,
         })
@@ -78,12 +75,10 @@ fn check_run(card: &[u8], letter: u8, first: u16, count: u16) -> Result<(), Faul
     requires { ((first + blocks_for count) * 512 ≤ length card.now) × ((first ≤ 26) × (count ≤ 512)) }
     ensures { result ≡ run_check card.now letter first count (blocks_for count) }
 {
-    let mut number = first;
     let mut left = count;
-    while left > 0 {
+    for number in first..first + count.div_ceil(126) {
         let used = left.min(126);
         block_at(card, number).check(letter, number, used as u8)?;
-        number += 1;
         left -= used;
     }
     Ok(())
@@ -110,18 +105,6 @@ fn check_sections(card: &[u8], sizes: &Sizes) -> Result<(), Fault>
     check_section(card, Kind::Slip, sizes)
 }
 
-/// The sizes of a card that passes, or its first fault.
-fn judge_card(card: &[u8]) -> Result<Sizes, Fault>
-    ensures value { verdict result ≡ card_check card.now }
-    ensures sizes { IfOk result (λ s. (s.ropes ≡ n_of card.now) × (s.rows ≡ m_of card.now)) }
-{
-    check_length(card.len())?;
-    let sizes = check_head(card)?;
-    check_full(card.len(), &sizes)?;
-    check_sections(card, &sizes)?;
-    Ok(sizes)
-}
-
 /// The sizes of a card, or the first fault of bytes that are none.
 /// Exactly the cards that are made of sizes in range and of numbers pass.
 pub fn check_card(card: &[u8]) -> Result<Sizes, Fault>
@@ -129,5 +112,9 @@ pub fn check_card(card: &[u8]) -> Result<Sizes, Fault>
     ensures sizes { IfOk result (λ s. (s.ropes ≡ n_of card.now) × (s.rows ≡ m_of card.now)) }
     ensures exact { Exact card.now (verdict result) }
 {
-    judge_card(card)
+    check_length(card.len())?;
+    let sizes = check_head(card)?;
+    check_full(card.len(), &sizes)?;
+    check_sections(card, &sizes)?;
+    Ok(sizes)
 }

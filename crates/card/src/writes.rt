@@ -1,9 +1,9 @@
-ghost use Rattle.std.specs.Prelude.{◌≡◌, ◌+◌, ◌*◌, ◌≤◌, length, Ok, OnOk, ◌==◌};
+ghost use Rattle.std.specs.Prelude.{◌≡◌, ◌+◌, ◌*◌, ◌≤◌, ◌≢◌, length, Ok, OnOk, MatchOption};
 ghost use Rattle.block.specs.Blocks.{Fit};
 ghost use Rattle.section.specs.Layout.{blocks_for, start_of, numbers_for, bytes_for};
 ghost use Rattle.card.specs.Faults.{card_check};
 ghost use Rattle.card.specs.Cards.{run_into, section_into};
-ghost use Rattle.card.specs.Contents.{sections, numbers, Counted, Tells, Built, written, bytes_needed, write_answer, write_after};
+ghost use Rattle.card.specs.Contents.{sections, numbers, Built, written, bytes_needed, write_answer, write_after};
 ghost use Rattle.card.specs.Laws.{Proper, Reads};
 
 use crate::contents::Contents;
@@ -51,45 +51,11 @@ fn write_all(out: &mut [u8], x: &Contents)
     write_section(out, Kind::Slip, &x.sizes, x.slip.as_slice());
 }
 
-/// Whether a section has as many numbers as the sizes ask for.
-fn counted(sizes: &Sizes, kind: Kind, numbers: &[i32]) -> bool
-    ensures { result ≡ (length numbers.now == numbers_for sizes.now kind) }
+/// Something where a section has as many numbers as the sizes ask for.
+fn counted(sizes: &Sizes, kind: Kind, numbers: &[i32]) -> Option<()>
+    ensures { MatchOption result (length numbers.now ≢ numbers_for sizes.now kind) (λ _. length numbers.now ≡ numbers_for sizes.now kind) }
 {
-    numbers.len() == sizes.count(kind) as usize
-}
-
-/// Whether every section has as many numbers as the sizes ask for.
-fn all_counted(
-    sizes: &Sizes,
-    curvature: &[i32],
-    rows: &[i32],
-    costs: &[i32],
-    bounds: &[i32],
-    limits: &[i32],
-    slip: &[i32],
-) -> bool
-    ensures { Tells result (Counted sizes.now (sections sizes.now curvature.now rows.now costs.now
-        bounds.now limits.now slip.now)) }
-{
-    if !counted(sizes, Kind::Curvature, curvature) {
-        return false;
-    }
-    if !counted(sizes, Kind::Rows, rows) {
-        return false;
-    }
-    if !counted(sizes, Kind::Costs, costs) {
-        return false;
-    }
-    if !counted(sizes, Kind::Bounds, bounds) {
-        return false;
-    }
-    if !counted(sizes, Kind::Limits, limits) {
-        return false;
-    }
-    if !counted(sizes, Kind::Slip, slip) {
-        return false;
-    }
-    true
+    (numbers.len() == sizes.count(kind) as usize).then_some(())
 }
 
 impl Contents {
@@ -105,18 +71,12 @@ impl Contents {
     ) -> Option<Contents>
         ensures { Built result sizes (sections sizes curvature.items rows.items costs.items bounds.items limits.items slip.items) }
     {
-        let fit = all_counted(
-            &sizes,
-            curvature.as_slice(),
-            rows.as_slice(),
-            costs.as_slice(),
-            bounds.as_slice(),
-            limits.as_slice(),
-            slip.as_slice(),
-        );
-        if !fit {
-            return None;
-        }
+        counted(&sizes, Kind::Curvature, curvature.as_slice())?;
+        counted(&sizes, Kind::Rows, rows.as_slice())?;
+        counted(&sizes, Kind::Costs, costs.as_slice())?;
+        counted(&sizes, Kind::Bounds, bounds.as_slice())?;
+        counted(&sizes, Kind::Limits, limits.as_slice())?;
+        counted(&sizes, Kind::Slip, slip.as_slice())?;
         Some(Contents {
             sizes,
             curvature,

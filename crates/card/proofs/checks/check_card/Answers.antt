@@ -1,18 +1,19 @@
-use Rattle.std.proofs.Common.{sym, ap, ◌∙◌}
-use Rattle.card.specs.Faults.{card_check}
-use Rattle.card.proofs.Whole.{card_back}
-use Rattle.card.proofs.Passing.{card_passes}
+use Rattle.std.proofs.Common.{Ok, rules}
+use Rattle.card.specs.Faults.{verdict}
+use Rattle.card.proofs.Checking.{exact_at}
 use Rattle.card.proofs.checks.check_card.Goals as goal
 
-pub returns : goal.returns
-returns c =
-    let value = c.judge_card.ensures.value in
-    record {
-      value = value;
-      sizes = c.judge_card.ensures.sizes;
-      exact =
-          record {
-            made = λ e. card_back c.args.card.now (λ k. (c.type_inv.card k).fits) (sym value ∙ e);
-            passes = λ n m nums proper e. value ∙ (ap card_check e ∙ card_passes n m proper.sizes nums proper);
-          };
-    }
+pub returns-in_err-check_length-clause-exact : goal.returns-in_err-check_length-clause-exact
+returns-in_err-check_length-clause-exact c = exact_at c.args.card.now (λ k. (c.type_inv.card k).fits) (verdict c.from_residual.result) (search rules)
+
+pub returns-in_err-sizes-clause-exact : goal.returns-in_err-sizes-clause-exact
+returns-in_err-sizes-clause-exact c = exact_at c.args.card.now (λ k. (c.type_inv.card k).fits) (verdict c.from_residual-in_err-sizes.result) (search rules)
+
+pub returns-in_err-check_full-clause-exact : goal.returns-in_err-check_full-clause-exact
+returns-in_err-check_full-clause-exact c = exact_at c.args.card.now (λ k. (c.type_inv.card k).fits) (verdict c.from_residual-in_err-check_full.result) (search rules)
+
+pub returns-in_err-check_sections-clause-exact : goal.returns-in_err-check_sections-clause-exact
+returns-in_err-check_sections-clause-exact c = exact_at c.args.card.now (λ k. (c.type_inv.card k).fits) (verdict c.from_residual-in_err-check_sections.result) (search rules)
+
+pub returns-clause-exact : goal.returns-clause-exact
+returns-clause-exact c = exact_at c.args.card.now (λ k. (c.type_inv.card k).fits) (Ok tt) (search rules)
