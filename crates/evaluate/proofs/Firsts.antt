@@ -14,10 +14,10 @@ pub between_decides : (low high x : ℤ) → Decides (between low high x) ((low 
 between_decides low high x = (between_parts low high x, λ h. between_from low high x h.0 h.1)
 
 -- i is the first place below n that fails
-abbrev First : (ℕ → Bool) → ℕ → ℕ → Type 0
+abbrev pub First : (ℕ → Bool) → ℕ → ℕ → Type 0
 First p i n = (i < n) × (p i ≡ false) × ((k : ℕ) → k < i → p k ≡ true)
 
-first_some : (p : ℕ → Bool) (n i : ℕ) → first_not p n ≡ Some i → First p i n
+pub first_some : (p : ℕ → Bool) (n i : ℕ) → first_not p n ≡ Some i → First p i n
 first_some p zero i e = let z : ◌≡◌ {A = ℕ} 0 1 = cc in absurd (omega arith)
 first_some p (suc n) i e = last (first_some p n i) (first_not p n) (p n) refl refl e
   where

@@ -1,7 +1,7 @@
 -- What follows of an offer that is not refused: its numbers fit.
 use Rattle.std.proofs.Common.{◌≡◌, ℕ, true, eqb, List, length, ℤ, None, sym, ap, ◌∙◌}
 use Rattle.std.specs.Option.{option_or}
-use Rattle.std.proofs.lemmas.Bool.{and_from}
+use Rattle.std.proofs.lemmas.Bool.{and_from, eqb-true}
 use Rattle.duality.specs.Lists.{places}
 use Rattle.duality.specs.Problem.{Problem}
 use Rattle.duality.specs.Tests.{first_not, within, all_within, many_within}
@@ -10,6 +10,9 @@ use Rattle.opening.specs.declared.refusal.Refusal.TheVariants.{OfferLength}
 use Rattle.opening.proofs.Firsts.{or_none, mapped_none, cond_none}
 use Rattle.calls.specs.States.{Pair}
 use Rattle.calls.specs.Refusing.{length_refusal, limit_refusal, bound_refusal, row_refusal, point_refusal, pair_refusal, proof_refusal}
+
+pub long_of : (m n : ℕ) (xs : List ℤ) → m ≡ n → length_refusal m (length xs) ≡ None → length xs ≡ n
+long_of m n xs e len = eqb-true _ _ (cond_none (eqb (length xs) m) (OfferLength m) len) ∙ e
 
 pub many_of : (n limit first : ℕ) (xs : List ℤ) → length_refusal n (length xs) ≡ None → limit_refusal limit first xs ≡ None → many_within n limit xs ≡ true
 many_of n limit first xs len lim =

@@ -5,4 +5,4 @@ mod amends;
 mod refuses;
 
 pub use amends::amend_terms;
-pub use refuses::{length_refusal, pair_refusal, point_refusal, proof_refusal};
+pub use refuses::{check_length, check_pair, check_point, check_proof};

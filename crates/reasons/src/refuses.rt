@@ -1,114 +1,92 @@
 //! Why an offer is refused.
-ghost use Rattle.std.specs.Prelude.{◌≡◌, ◌≤◌, true, vec_len};
+ghost use Rattle.std.specs.Prelude.{◌≡◌, ◌≤◌, true, length, vec_len};
 ghost use Rattle.duality.specs.Lists.{places};
 ghost use Rattle.duality.specs.Tests.{many_within};
 ghost use Rattle.table.specs.Grid.{Grid};
-ghost use Rattle.evaluate.specs.Terms.{problem_of};
+ghost use Rattle.evaluate.specs.Stated.{problem_of};
 ghost use Rattle.calls.specs.Refusing.{length_refusal, limit_refusal, bound_refusal, row_refusal};
 ghost use Rattle.calls.specs.Refusing.{point_refusal, pair_refusal, proof_refusal};
+ghost use Rattle.calls.specs.Steps.{unless};
 
-use evaluate::{Finding, Terms, first_broken_bound, first_broken_row, refutes};
+use evaluate::{Pair, check_bounds, check_rows, refutes};
 use opening::Refusal;
 use table::Table;
+use terms::{MULTIPLIER_LIMIT, PULL_LIMIT, Terms, Unmet, first_beyond};
 
-/// Pulls of a point.
-const PULL_LIMIT: u64 = 32_768;
-
-/// Multipliers of a pair or a proof.
-const MULTIPLIER_LIMIT: u64 = 16_777_216;
-
-/// Why a list of this length is refused where another is needed.
-pub fn length_refusal(needed: usize, len: usize) -> Option<Refusal>
-    ensures { result ≡ length_refusal needed len }
+/// Refuses a list of this length where another is needed.
+pub fn check_length(needed: usize, len: usize) -> Result<(), Refusal>
+    ensures { result ≡ unless (length_refusal needed len) tt }
 {
-    if len == needed {
-        None
-    } else {
-        Some(Refusal::OfferLength { needed })
+    if len != needed {
+        return Err(Refusal::OfferLength { needed });
+    }
+    Ok(())
+}
+
+/// Refuses the first number beyond the limit, counted on from `first`.
+fn check_limit(limit: u64, first: usize, xs: &[i64]) -> Result<(), Refusal>
+    requires first { first ≤ 16 }
+    requires few { length xs.now ≤ 32 }
+    ensures { result ≡ unless (limit_refusal limit first xs.now) tt }
+{
+    match first_beyond(limit, xs) {
+        Some(k) => Err(Refusal::OfferLimit { index: first + k }),
+        None => Ok(()),
     }
 }
 
-/// The first number beyond the limit, counted on from `first`.
-fn limit_refusal(limit: u64, first: usize, xs: &[i64]) -> Option<Refusal>
-    requires { first ≤ 16 }
-    ensures { result ≡ limit_refusal limit first xs.now }
-{
-    for k in 0..xs.len() {
-        if xs[k].unsigned_abs() > limit {
-            return Some(Refusal::OfferLimit { index: first + k });
-        }
-    }
-    None
-}
-
-fn bound_refusal(terms: &Terms, z: &[i64]) -> Option<Refusal>
+fn refuse_bound(terms: &Terms, z: &[i64]) -> Result<(), Refusal>
     requires { many_within (vec_len terms.now.c) 32768 z.now ≡ true }
-    ensures { (g a : Grid) → result ≡ bound_refusal (problem_of g a terms.now) (places z.now) }
+    ensures { (g a : Grid) → result ≡ unless (bound_refusal (problem_of g a terms.now) (places z.now)) tt }
 {
-    match first_broken_bound(terms, z) {
-        Finding::Broken(rope) => Some(Refusal::Bound { rope }),
-        Finding::Kept => None,
-        Finding::NoPoint => unreachable(),
+    match check_bounds(terms, z) {
+        Ok(()) => Ok(()),
+        Err(Unmet::At(rope)) => Err(Refusal::Bound { rope }),
+        Err(Unmet::NoPoint) => unreachable(),
     }
 }
 
-fn row_refusal<T: Table>(a: &T, terms: &Terms, z: &[i64]) -> Option<Refusal>
+fn refuse_row<T: Table>(a: &T, terms: &Terms, z: &[i64]) -> Result<(), Refusal>
     requires { many_within (vec_len terms.now.c) 32768 z.now ≡ true }
-    ensures { (g : Grid) → result ≡ row_refusal (problem_of g (T.Table.meant a.now) terms.now) (places z.now) }
+    ensures { (g : Grid) → result ≡ unless (row_refusal (problem_of g (T.Table.meant a.now) terms.now) (places z.now)) tt }
 {
-    match first_broken_row(a, terms, z) {
-        Finding::Broken(row) => Some(Refusal::Row { row }),
-        Finding::Kept => None,
-        Finding::NoPoint => unreachable(),
+    match check_rows(a, terms, z) {
+        Ok(()) => Ok(()),
+        Err(Unmet::At(row)) => Err(Refusal::Row { row }),
+        Err(Unmet::NoPoint) => unreachable(),
     }
 }
 
-/// Why a point is refused, whatever G is: its length, the first number beyond ±32,768, the first bound that it breaks, the first row.
-pub fn point_refusal<T: Table>(a: &T, terms: &Terms, z: &[i64]) -> Option<Refusal>
-    ensures { (g : Grid) → result ≡ point_refusal (problem_of g (T.Table.meant a.now) terms.now) z.now }
+/// Refuses a point, whatever G is, for its length, the first number beyond ±32,768, the first bound that it breaks, the first row.
+pub fn check_point<T: Table>(a: &T, terms: &Terms, z: &[i64]) -> Result<(), Refusal>
+    ensures { (g : Grid) → result ≡ unless (point_refusal (problem_of g (T.Table.meant a.now) terms.now) z.now) tt }
 {
-    if let Some(refusal) = length_refusal(terms.c.len(), z.len()) {
-        return Some(refusal);
-    }
-    if let Some(refusal) = limit_refusal(PULL_LIMIT, 0, z) {
-        return Some(refusal);
-    }
-    if let Some(refusal) = bound_refusal(terms, z) {
-        return Some(refusal);
-    }
-    row_refusal(a, terms, z)
+    check_length(terms.c.len(), z.len())?;
+    check_limit(PULL_LIMIT, 0, z)?;
+    refuse_bound(terms, z)?;
+    refuse_row(a, terms, z)
 }
 
-/// Why a pair is refused: the length of the point, that of the multipliers, the first number beyond its limit. Multipliers count on from the point.
-pub fn pair_refusal(terms: &Terms, p: &[i64], y: &[i64]) -> Option<Refusal>
-    ensures { (g a : Grid) → result ≡ pair_refusal (problem_of g a terms.now) (record { point = p.now; multipliers = y.now }) }
+/// Refuses a pair for the length of the point, that of the multipliers, the first number beyond its limit. Multipliers count on from the point.
+pub fn check_pair(terms: &Terms, pair: Pair) -> Result<(), Refusal>
+    ensures { (g a : Grid) → result ≡ unless (pair_refusal (problem_of g a terms.now)
+        (record { point = pair.entry.point.now; multipliers = pair.entry.multipliers.now })) tt }
 {
     let ropes = terms.c.len();
-    if let Some(refusal) = length_refusal(ropes, p.len()) {
-        return Some(refusal);
-    }
-    if let Some(refusal) = length_refusal(terms.lo.len(), y.len()) {
-        return Some(refusal);
-    }
-    if let Some(refusal) = limit_refusal(PULL_LIMIT, 0, p) {
-        return Some(refusal);
-    }
-    limit_refusal(MULTIPLIER_LIMIT, ropes, y)
+    check_length(ropes, pair.point.len())?;
+    check_length(terms.lo.len(), pair.multipliers.len())?;
+    check_limit(PULL_LIMIT, 0, pair.point)?;
+    check_limit(MULTIPLIER_LIMIT, ropes, pair.multipliers)
 }
 
-/// Why multipliers are refused as a proof of none: their length, the first number beyond ±16,777,216, or that they prove nothing.
-pub fn proof_refusal<T: Table>(a: &T, terms: &Terms, y: &[i64]) -> Option<Refusal>
-    ensures { (g : Grid) → result ≡ proof_refusal (problem_of g (T.Table.meant a.now) terms.now) y.now }
+/// Refuses multipliers as a proof of none for their length, the first number beyond ±16,777,216, or that they prove nothing.
+pub fn check_proof<T: Table>(a: &T, terms: &Terms, y: &[i64]) -> Result<(), Refusal>
+    ensures { (g : Grid) → result ≡ unless (proof_refusal (problem_of g (T.Table.meant a.now) terms.now) y.now) tt }
 {
-    if let Some(refusal) = length_refusal(terms.lo.len(), y.len()) {
-        return Some(refusal);
+    check_length(terms.lo.len(), y.len())?;
+    check_limit(MULTIPLIER_LIMIT, 0, y)?;
+    if !refutes(a, terms, y).unwrap() {
+        return Err(Refusal::NoProof);
     }
-    if let Some(refusal) = limit_refusal(MULTIPLIER_LIMIT, 0, y) {
-        return Some(refusal);
-    }
-    match refutes(a, terms, y) {
-        Some(true) => None,
-        Some(false) => Some(Refusal::NoProof),
-        None => unreachable(),
-    }
+    Ok(())
 }
