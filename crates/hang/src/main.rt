@@ -1,8 +1,6 @@
 //! Reads a job card on standard input and says what it holds, or why it is refused.
 #![tactic(auto)]
 
-ghost use Rattle.std.specs.Prelude.{◌≤◌, length, IfOk};
-
 use anyhow::anyhow;
 use card::{CardTable, Kind, Section, Sizes, check_card};
 use std::alloc::{AllocError, Global};
@@ -11,22 +9,7 @@ use std::io::Read;
 use table::Table;
 
 /// One byte more than the longest card, so that a longer one is seen to be too long.
-const MOST: usize = 7681;
-
-/// Reads up to the end of the input or of the buffer, and answers how many bytes came.
-fn fill(input: &mut impl Read, buffer: &mut [u8]) -> io::Result<usize>
-    ensures { IfOk result (λ n. n ≤ length buffer.old) }
-{
-    let mut len = 0;
-    for _ in 0..MOST {
-        let came = input.read(&mut buffer[len..])?;
-        if came == 0 {
-            break;
-        }
-        len += came;
-    }
-    Ok(len)
-}
+const MOST: u64 = 7681;
 
 /// Prints the sizes of a card, and of each section its letter, its first block and how many numbers it has.
 fn print_sections(rt: &HostRuntime, card: &[u8], sizes: &Sizes) -> io::Result<()> {
@@ -48,16 +31,12 @@ fn print_sections(rt: &HostRuntime, card: &[u8], sizes: &Sizes) -> io::Result<()
 
 /// The lower bounds of the ropes, as the card's section B has them.
 fn lower_bounds(heap: Global, card: &[u8], sizes: &Sizes) -> Result<Vec<i64>, AllocError> {
-    let mut lower = Vec::new(heap);
     let Some(section) = Section::at(card, sizes.first(Kind::Bounds), sizes) else {
-        return Ok(lower);
+        return Ok(Vec::new(heap));
     };
-    for j in 0..sizes.ropes() {
-        if let Some(z) = section.value(j) {
-            lower.push(z as i64)?;
-        }
-    }
-    Ok(lower)
+    (0..sizes.ropes())
+        .filter_map(|j| section.value(j).map(i64::from))
+        .collect(heap)
 }
 
 /// Prints the sum of each row at the lower bounds, or `blank` where the card has no such sum.
@@ -73,9 +52,9 @@ fn print_sums(rt: &HostRuntime, card: &[u8], lower: &[i64]) -> io::Result<()> {
 }
 
 fn run(rt: &HostRuntime) -> anyhow::Result<()> {
-    let mut buffer = vec![in rt.alloc(); 0u8; MOST]?;
-    let len = fill(&mut rt.stdin(), buffer.as_mut_slice())?;
-    let card = &buffer.as_slice()[0..len];
+    let mut bytes = Vec::new(rt.alloc());
+    rt.stdin().take(MOST).read_to_end(&mut bytes)?;
+    let card = bytes.as_slice();
     match check_card(card) {
         Ok(sizes) => {
             print_sections(rt, card, &sizes)?;

@@ -5,36 +5,21 @@ ghost use Rattle.std.specs.Prelude.{◌≤◌, length, IfOk};
 ghost use Rattle.hang_solve.specs.Solved.{Solved};
 
 use anyhow::anyhow;
+use lines::ROOM;
 use opening::Refusal;
 use print::{print_plan, print_refusal};
 use sheet::load;
 use std::alloc::Global;
-use std::io;
 use std::io::{Read, Write};
 
 /// One byte more than the longest card, so that a longer one is seen to be too long.
-const MOST: usize = 7681;
+const MOST: u64 = 7681;
 
 /// Steps of the exchange.
 const STEPS: u64 = 1_000;
 
 /// Moves of the walk.
 const MOVES: u64 = 100_000;
-
-/// Reads up to the end of the input or of the buffer, and answers how many bytes came.
-fn fill(input: &mut impl Read, buffer: &mut [u8]) -> io::Result<usize>
-    ensures { IfOk result (λ n. n ≤ length buffer.old) }
-{
-    let mut len = 0;
-    for _ in 0..MOST {
-        let came = input.read(&mut buffer[len..])?;
-        if came == 0 {
-            break;
-        }
-        len += came;
-    }
-    Ok(len)
-}
 
 /// Solves the job of a card, and writes what the plan shows then into a list of bytes.
 fn solve_card(heap: Global, card: &[u8], out: &mut [u8]) -> Result<usize, Refusal>
@@ -47,17 +32,17 @@ fn solve_card(heap: Global, card: &[u8], out: &mut [u8]) -> Result<usize, Refusa
 }
 
 fn run(rt: &HostRuntime) -> anyhow::Result<()> {
-    let mut buffer = vec![in rt.alloc(); 0u8; MOST]?;
-    let len = fill(&mut rt.stdin(), buffer.as_mut_slice())?;
-    let mut text = [0u8; 320];
-    match solve_card(rt.alloc(), &buffer.as_slice()[0..len], &mut text) {
+    let mut card = Vec::new(rt.alloc());
+    rt.stdin().take(MOST).read_to_end(&mut card)?;
+    let mut text = [0u8; ROOM];
+    match solve_card(rt.alloc(), card.as_slice(), &mut text) {
         Ok(bytes) => {
-            rt.stdout().write_all(&text[0..bytes])?;
+            rt.stdout().write_all(&text[..bytes])?;
             Ok(())
         }
         Err(refusal) => {
             if let Ok(bytes) = print_refusal(&refusal, &mut text) {
-                rt.stdout().write_all(&text[0..bytes])?;
+                rt.stdout().write_all(&text[..bytes])?;
             }
             Err(anyhow!("the card is refused"))
         }
