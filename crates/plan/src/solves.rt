@@ -11,6 +11,7 @@ ghost use Rattle.walk.specs.ProblemLaws.{Lawful};
 ghost use Rattle.walk.specs.Running.{Sized};
 ghost use Rattle.walk.specs.ProblemWalks.{ended, walk_from};
 ghost use Rattle.calls.specs.Offers.{took_all};
+ghost use Rattle.calls.specs.Steps.{unless};
 ghost use Rattle.calls.specs.Solving.{solve_refusal, written, found_offers, last_found, if_met, solve_offers, report, Solves, LawfulSolve};
 ghost use Rattle.plan.specs.Solves.{Fresh, Reports, Ready};
 ghost use Rattle.plan.specs.View.{view};
@@ -30,16 +31,16 @@ const MOST_STEPS: u64 = 1_000;
 
 const MOST_MOVES: u64 = 1_000_000;
 
-fn solve_refusal(steps: u64, moves: u64) -> Option<Refusal>
-    ensures { result ≡ solve_refusal steps moves }
+fn check_budgets(steps: u64, moves: u64) -> Result<(), Refusal>
+    ensures { result ≡ unless (solve_refusal steps moves) tt }
 {
     if steps > MOST_STEPS {
-        return Some(Refusal::OfferLimit { index: 0 });
+        return Err(Refusal::OfferLimit { index: 0 });
     }
     if moves > MOST_MOVES {
-        return Some(Refusal::OfferLimit { index: 1 });
+        return Err(Refusal::OfferLimit { index: 1 });
     }
-    None
+    Ok(())
 }
 
 /// Walks on a job that the room was made for.
@@ -49,10 +50,7 @@ fn walk_from(job: &Job, room: &mut Room, at: &mut [i64], budget: u32) -> Walked
     ensures value { ended at.new result ≡ walk_from (problem_of job.now) budget at.old }
     ensures law { Lawful (problem_of job.now) budget at.old at.new result }
 {
-    match walk_in(room, job, at, budget) {
-        Ok(walked) => walked,
-        Err(_) => unreachable(),
-    }
+    walk_in(room, job, at, budget).unwrap()
 }
 
 impl<G: Table, A: Table> Plan<G, A> {
@@ -186,9 +184,7 @@ impl<G: Table, A: Table> Plan<G, A> {
         ensures value { Solves (view G.Table.meant A.Table.meant self.old) steps moves result (view G.Table.meant A.Table.meant self.new) }
         ensures law { IfOk result (LawfulSolve (view G.Table.meant A.Table.meant self.old) steps moves) }
     {
-        if let Some(refusal) = solve_refusal(steps, moves) {
-            return Err(refusal);
-        }
+        check_budgets(steps, moves)?;
         let proposer = self.proposer(heap)?;
         Ok(self.propose(proposer, steps as usize, moves as u32))
     }
