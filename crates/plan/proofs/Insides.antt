@@ -1,17 +1,21 @@
 -- Points that are held lie inside their bounds.
-use Rattle.std.proofs.Common.{◌≡◌, ℕ, Bool, true, false, cond, eqb, List, length, ℤ, None, sym, refl, arith}
+use Rattle.std.proofs.Common.{◌≡◌, ℕ, Bool, true, false, cond, eqb, List, length, ℤ, Some, None, Option, refl, arith}
 use Rattle.std.specs.Option.{option_or}
 use Rattle.std.proofs.lemmas.Bool.{and_parts, eqb-true}
 use Rattle.duality.specs.Lists.{places}
 use Rattle.duality.specs.Problem.{Problem}
-use Rattle.duality.specs.Tests.{all, between, first_not}
+use Rattle.duality.specs.Tests.{all, between, first_not, many_within}
 use Rattle.duality.proofs.Tests.{all_from, all_at, first_none}
 use Rattle.opening.specs.declared.refusal.Refusal.TheVariants.{OfferLength}
 use Rattle.opening.proofs.Firsts.{or_none, mapped_none, cond_none}
+use Rattle.job.proofs.Reading.{wider}
+use Rattle.arrayvec.specs.ArrayVec.{ArrayVec}
 use Rattle.evaluate.specs.Findings.{keeps_bound, keeps_row, feasible}
-use Rattle.calls.specs.Refusing.{length_refusal, limit_refusal, bound_refusal, row_refusal, point_refusal}
-use Rattle.plan.specs.View.{held_if}
+use Rattle.evaluate.proofs.Reading.{many_long}
 use Rattle.calls.specs.Steps.{standing}
+use Rattle.calls.specs.Refusing.{length_refusal, limit_refusal, bound_refusal, row_refusal, point_refusal}
+use Rattle.plan.specs.Inside.{passes, held_within}
+use Rattle.plan.specs.View.{held}
 
 -- each number of a list of so many lies between its bounds
 abbrev pub lies_in : Problem → List ℤ → ℕ → Bool
@@ -31,9 +35,19 @@ feasible_lies P z n f =
     let p = and_parts (all (keeps_row P (places z)) P.rows) (all (keeps_bound P (places z)) P.ropes) f in
     all_from (keeps_bound P (places z)) (length z) (λ k l. all_at (keeps_bound P (places z)) P.ropes k p.1 (omega arith))
 
-pub stands_inside : (P : Problem) (z : List ℤ) (b : Bool) → length z ≡ P.ropes → b ≡ feasible P (places z) → cond b (lies_in P z (length z)) true ≡ true
-stands_inside P z true n e = feasible_lies P z n (sym e)
-stands_inside P z false n e = refl
+standing_passes : (test : List ℤ → Bool) (o : Option (List ℤ)) (z : List ℤ) → Some z ≡ standing test o → test z ≡ true
+standing_passes test None z e = cc
+standing_passes test (Some x) z e = go (test x) refl e
+  where
+    go : (b : Bool) → test x ≡ b → Some z ≡ cond b (Some x) None → test z ≡ true
+    go true t h = cc
+    go false t h = cc
 
-pub stands_is : (test : List ℤ → Bool) (z : List ℤ) (held b : Bool) → held ≡ true → b ≡ test z → held_if b z ≡ standing test (held_if held z)
-stands_is test z held b h e = rw (h, e)
+pub stands_inside : (P : Problem) (old new : Option (ArrayVec ℤ)) → passes (many_within P.ropes 32768) new ≡ true
+    → held new ≡ standing (λ z. feasible P (places z)) (held old) → passes (λ z. lies_in P z (length z)) new ≡ true
+stands_inside P old None m e = refl
+stands_inside P old (Some v) m e = feasible_lies P v.items (many_long P.ropes 32768 v.items m) (standing_passes (λ z. feasible P (places z)) (held old) v.items e)
+
+pub held_wider : (n : ℕ) (o : Option (ArrayVec ℤ)) → held_within n 32768 o ≡ true → held_within n 1073741824 o ≡ true
+held_wider n None h = refl
+held_wider n (Some v) h = wider n v.items h

@@ -1,4 +1,3 @@
-pub mod Gaps
 pub mod Refused
 pub mod Opened
 pub mod Insides

@@ -7,7 +7,6 @@ use Rattle.evaluate.specs.Stated.{Numbers}
 use Rattle.job.specs.ProblemBounds.{is_in_bounds}
 use Rattle.job.proofs.Holding.{in_bounds_in}
 use Rattle.exchange.specs.declared.members.Offer.{Offer as Found}
-use Rattle.exchange.specs.declared.members.Choice.{Choice}
 use Rattle.exchange.specs.declared.members.Member.{Member}
 use Rattle.exchange.specs.declared.members.Step.{Step}
 use Rattle.exchange.specs.declared.members.Step.TheVariants as step
@@ -15,24 +14,9 @@ use Rattle.exchange.specs.ProblemOffers.{OffersInside}
 use Rattle.exchange.specs.Runs.{Run, stepped, offers_of, run_from, exchanged}
 use Rattle.exchange.proofs.Running.{run_starts}
 use Rattle.calls.specs.States.{State}
-use Rattle.calls.specs.Steps.{pointed, paired}
 use Rattle.calls.specs.Offers.{Offer, point, pair, took, took_all}
 use Rattle.calls.specs.Solving.{found_offers, last_found, point_found, pair_found}
 use Rattle.calls.proofs.Taking.{offers_same}
-
--- one step's offers
-
-pub step_last : (x : Numbers) (st : Step) (o : Found) (ch : Choice) (z z₀ : List ℤ) → st ≡ step.Found o ch → z ≡ take x.ropes o.point → z ≡ last_found x z₀ (offers_of st)
-step_last x st o ch z z₀ e ez = ez ∙ sym (ap (λ (t : Step). last_found x z₀ (offers_of t)) e)
-
-pub step_after : (s s₁ s₂ : State) (x : Numbers) (st : Step) (o : Found) (ch : Choice) (z y : List ℤ) → st ≡ step.Found o ch
-    → z ≡ take x.ropes o.point → y ≡ take x.rows o.multipliers → s₁ ≡ pointed s z → s₂ ≡ paired s₁ (record { point = z; multipliers = y })
-    → s₂ ≡ took_all s (found_offers x (offers_of st))
-step_after s s₁ s₂ x st o ch z y e ez ey e₁ e₂ =
-    e₂ ∙ ap (λ (t : State). paired t (record { point = z; multipliers = y })) e₁
-    ∙ ap (λ (w : List ℤ). paired (pointed s w) (record { point = w; multipliers = y })) ez
-    ∙ ap (λ (w : List ℤ). paired (pointed s (take x.ropes o.point)) (record { point = take x.ropes o.point; multipliers = w })) ey
-    ∙ sym (ap (λ (t : Step). took_all s (found_offers x (offers_of t))) e)
 
 -- offers one after the other
 

@@ -1,13 +1,15 @@
 -- A plan as the state that it stands for.
-use Rattle.std.specs.Prelude.{Bool, cond, List, ℤ, Some, None, vec_items, Option}
+use Rattle.std.specs.Prelude.{List, ℤ, Option}
+use Rattle.std.specs.Option.{option_map}
+use Rattle.arrayvec.specs.ArrayVec.{ArrayVec}
 use Rattle.table.specs.Grid.{Grid}
 use Rattle.table.specs.declared.interface.Table.{Ghosts}
 use Rattle.evaluate.specs.Stated.{numbers_of}
 use Rattle.calls.specs.States.{State}
 use Rattle.plan.specs.declared.state.Plan.{Plan}
 
-abbrev pub held_if : Bool → List ℤ → Option (List ℤ)
-held_if b xs = cond b (Some xs) None
+abbrev pub held : Option (ArrayVec ℤ) → Option (List ℤ)
+held o = option_map (λ v. v.items) o
 
 -- where the tables of the two kinds mean these grids
 abbrev pub view : {G A : Type 0} {ofG : Ghosts G} {ofA : Ghosts A} → (G → Grid) → (A → Grid) → Plan G A ofG ofA → State
@@ -16,7 +18,7 @@ view meantG meantA p =
       g = meantG p.g;
       a = meantA p.a;
       numbers = numbers_of p.terms;
-      point = held_if p.held (vec_items p.point);
-      proof = held_if p.refuted (vec_items p.proof);
-      pair = record { point = vec_items p.base; multipliers = vec_items p.multipliers };
+      point = held p.point;
+      proof = held p.proof;
+      pair = record { point = p.pair.point.items; multipliers = p.pair.multipliers.items };
     }

@@ -1,46 +1,46 @@
 //! Amendments: new numbers for a row or a rope, and what they leave of what is held.
-ghost use Rattle.std.specs.Prelude.{◌≡◌, true, not, ◌&&◌, vec_len};
+ghost use Rattle.std.specs.Prelude.{◌≡◌, true, vec_len};
 ghost use Rattle.duality.specs.Lists.{places};
-ghost use Rattle.duality.specs.Tests.{many_within};
 ghost use Rattle.table.specs.Grid.{Grid};
 ghost use Rattle.evaluate.specs.Terms.{problem_of};
 ghost use Rattle.evaluate.specs.Findings.{feasible};
 ghost use Rattle.evaluate.specs.Floors.{refuting};
-ghost use Rattle.calls.specs.Steps.{standing, amend_answer, amended};
-ghost use Rattle.plan.specs.Inside.{held_inside};
-ghost use Rattle.plan.specs.View.{held_if, view};
+ghost use Rattle.calls.specs.Steps.{standing, was_dropped, amend_answer, amended};
+ghost use Rattle.plan.specs.Inside.{held_within};
+ghost use Rattle.plan.specs.View.{held, view};
 
-use crate::evaluates::{is_refuted, keeps_all};
 use crate::state::Plan;
+use arrayvec::ArrayVec;
 use calls::{Amendment, Dropped};
-use evaluate::Terms;
+use evaluate::{Terms, is_feasible, refutes};
 use opening::Refusal;
 use reasons::amend_terms;
 use table::Table;
 
-/// Whether a point that is held still keeps every row and bound.
-fn point_stands<T: Table>(a: &T, terms: &Terms, held: bool, z: &[i64]) -> bool
-    requires { many_within (vec_len terms.now.c) 32768 z.now ≡ true }
-    ensures value { (g : Grid) → held_if result z.now
-        ≡ standing (λ x. feasible (problem_of g (T.Table.meant a.now) terms.now) (places x)) (held_if held z.now) }
-    ensures inside { held_inside result terms.now.l.items terms.now.u.items z.now ≡ true }
+/// Drops a held point that now breaks a row or a bound, and says whether it did.
+fn drop_broken<T: Table>(a: &T, terms: &Terms, point: &mut Option<ArrayVec<i64, 16>>) -> bool
+    requires { held_within (vec_len terms.now.c) 32768 point.old ≡ true }
+    ensures value { (g : Grid) → held point.new
+        ≡ standing (λ x. feasible (problem_of g (T.Table.meant a.now) terms.now) (places x)) (held point.old) }
+    ensures dropped { result ≡ was_dropped (held point.old) (held point.new) }
+    ensures pulls { held_within (vec_len terms.now.c) 32768 point.new ≡ true }
 {
-    held && keeps_all(a, terms, z)
+    point
+        .take_if(|z| is_feasible(a, terms, z) == Some(false))
+        .is_some()
 }
 
-/// Whether a proof that is held still refutes.
-fn proof_stands<T: Table>(a: &T, terms: &Terms, held: bool, y: &[i64]) -> bool
-    requires { many_within (vec_len terms.now.lo) 16777216 y.now ≡ true }
-    ensures { (g : Grid) → held_if result y.now
-        ≡ standing (λ x. refuting (problem_of g (T.Table.meant a.now) terms.now) (places x)) (held_if held y.now) }
+/// Drops a held proof that no longer refutes, and says whether it did.
+fn drop_stale<T: Table>(a: &T, terms: &Terms, proof: &mut Option<ArrayVec<i64, 32>>) -> bool
+    requires { held_within (vec_len terms.now.lo) 16777216 proof.old ≡ true }
+    ensures value { (g : Grid) → held proof.new
+        ≡ standing (λ x. refuting (problem_of g (T.Table.meant a.now) terms.now) (places x)) (held proof.old) }
+    ensures dropped { result ≡ was_dropped (held proof.old) (held proof.new) }
+    ensures refuters { held_within (vec_len terms.now.lo) 16777216 proof.new ≡ true }
 {
-    held && is_refuted(a, terms, y)
-}
-
-fn was_lost(before: bool, after: bool) -> bool
-    ensures { result ≡ before && not after }
-{
-    before && !after
+    proof
+        .take_if(|y| refutes(a, terms, y) == Some(false))
+        .is_some()
 }
 
 impl<G: Table, A: Table> Plan<G, A> {
@@ -55,12 +55,9 @@ impl<G: Table, A: Table> Plan<G, A> {
         if let Some(refusal) = amend_terms(&mut self.terms, amendment) {
             return Err(refusal);
         }
-        let held = point_stands(&self.a, &self.terms, self.held, self.point.as_slice());
-        let refuted = proof_stands(&self.a, &self.terms, self.refuted, self.proof.as_slice());
-        let point = was_lost(self.held, held);
-        let proof = was_lost(self.refuted, refuted);
-        self.held = held;
-        self.refuted = refuted;
-        Ok(Dropped { point, proof })
+        Ok(Dropped {
+            point: drop_broken(&self.a, &self.terms, &mut self.point),
+            proof: drop_stale(&self.a, &self.terms, &mut self.proof),
+        })
     }
 }

@@ -7,6 +7,7 @@ mod amends;
 mod evaluates;
 mod offers;
 mod opens;
+mod proposers;
 mod shows;
 mod sizes;
 mod solves;

@@ -1,16 +1,26 @@
 //! Offers: points, pairs and proofs of none.
 ghost use Rattle.std.specs.Prelude.{◌≡◌, is_ok, Decides};
 ghost use Rattle.calls.specs.States.{problem};
-ghost use Rattle.calls.specs.Steps.{point_answer, pointed, pair_answer, paired, proof_answer, proven};
+ghost use Rattle.calls.specs.Steps.{verdict as verdict_of, point_answer, pointed, pair_answer, paired, proof_answer, proven};
 ghost use Rattle.calls.specs.Lawful.{LawfulPoint, LawfulPair, LawfulProof};
 ghost use Rattle.plan.specs.View.{view};
 
-use crate::evaluates::{cost_of, floor_of};
-use crate::state::Plan;
+use crate::evaluates::copied;
+use crate::state::{HeldPair, Plan};
 use calls::Verdict;
 use opening::Refusal;
 use reasons::{pair_refusal, point_refusal, proof_refusal};
 use table::Table;
+
+fn verdict(better: bool) -> Verdict
+    ensures { result ≡ verdict_of better }
+{
+    if better {
+        Verdict::Taken
+    } else {
+        Verdict::Kept
+    }
+}
 
 impl<G: Table, A: Table> Plan<G, A> {
     fn judge_point(&self, z: &[i64]) -> Result<Verdict, Refusal>
@@ -19,16 +29,11 @@ impl<G: Table, A: Table> Plan<G, A> {
         if let Some(refusal) = point_refusal(&self.a, &self.terms, z) {
             return Err(refusal);
         }
-        if !self.held {
-            return Ok(Verdict::Taken);
-        }
-        let new = cost_of(&self.g, &self.terms, z);
-        let old = cost_of(&self.g, &self.terms, self.point.as_slice());
-        if new < old {
-            Ok(Verdict::Taken)
-        } else {
-            Ok(Verdict::Kept)
-        }
+        let better = match &self.point {
+            Some(held) => self.cost_of(z) < self.cost_of(held),
+            None => true,
+        };
+        Ok(verdict(better))
     }
 
     /// Offers a point. It is taken if none is held or its cost is lower; else what is held is kept.
@@ -40,15 +45,11 @@ impl<G: Table, A: Table> Plan<G, A> {
         ensures after { view G.Table.meant A.Table.meant self.new ≡ pointed (view G.Table.meant A.Table.meant self.old) z.now }
         ensures lawful { Decides (is_ok result) (LawfulPoint (problem (view G.Table.meant A.Table.meant self.old)) z.now) }
     {
-        match self.judge_point(z) {
-            Ok(Verdict::Taken) => {
-                self.point.copy_from_slice(z);
-                self.held = true;
-                Ok(Verdict::Taken)
-            }
-            Ok(Verdict::Kept) => Ok(Verdict::Kept),
-            Err(refusal) => Err(refusal),
+        let verdict = self.judge_point(z)?;
+        if verdict == Verdict::Taken {
+            self.point = Some(copied(z));
         }
+        Ok(verdict)
     }
 
     fn judge_pair(&self, p: &[i64], y: &[i64]) -> Result<Verdict, Refusal>
@@ -57,19 +58,7 @@ impl<G: Table, A: Table> Plan<G, A> {
         if let Some(refusal) = pair_refusal(&self.terms, p, y) {
             return Err(refusal);
         }
-        let new = floor_of(&self.g, &self.a, &self.terms, p, y);
-        let old = floor_of(
-            &self.g,
-            &self.a,
-            &self.terms,
-            self.base.as_slice(),
-            self.multipliers.as_slice(),
-        );
-        if old < new {
-            Ok(Verdict::Taken)
-        } else {
-            Ok(Verdict::Kept)
-        }
+        Ok(verdict(self.held_floor() < self.floor_of(p, y)))
     }
 
     /// Offers a pair: a point, which may break rows and bounds, and a multiplier in 256ths for each row. It is taken if its floor is higher.
@@ -83,15 +72,14 @@ impl<G: Table, A: Table> Plan<G, A> {
         ensures lawful { Decides (is_ok result) (LawfulPair (problem (view G.Table.meant A.Table.meant self.old))
             (record { point = p.now; multipliers = y.now })) }
     {
-        match self.judge_pair(p, y) {
-            Ok(Verdict::Taken) => {
-                self.base.copy_from_slice(p);
-                self.multipliers.copy_from_slice(y);
-                Ok(Verdict::Taken)
-            }
-            Ok(Verdict::Kept) => Ok(Verdict::Kept),
-            Err(refusal) => Err(refusal),
+        let verdict = self.judge_pair(p, y)?;
+        if verdict == Verdict::Taken {
+            self.pair = HeldPair {
+                point: copied(p),
+                multipliers: copied(y),
+            };
         }
+        Ok(verdict)
     }
 
     fn judge_proof(&self, y: &[i64]) -> Result<Verdict, Refusal>
@@ -100,11 +88,7 @@ impl<G: Table, A: Table> Plan<G, A> {
         if let Some(refusal) = proof_refusal(&self.a, &self.terms, y) {
             return Err(refusal);
         }
-        if self.refuted {
-            Ok(Verdict::Kept)
-        } else {
-            Ok(Verdict::Taken)
-        }
+        Ok(verdict(self.proof.is_none()))
     }
 
     /// Offers multipliers, here plain whole numbers, as a proof that no point meets every row and bound. They are taken if none are held.
@@ -115,14 +99,10 @@ impl<G: Table, A: Table> Plan<G, A> {
         ensures after { view G.Table.meant A.Table.meant self.new ≡ proven (view G.Table.meant A.Table.meant self.old) y.now }
         ensures lawful { Decides (is_ok result) (LawfulProof (problem (view G.Table.meant A.Table.meant self.old)) y.now) }
     {
-        match self.judge_proof(y) {
-            Ok(Verdict::Taken) => {
-                self.proof.copy_from_slice(y);
-                self.refuted = true;
-                Ok(Verdict::Taken)
-            }
-            Ok(Verdict::Kept) => Ok(Verdict::Kept),
-            Err(refusal) => Err(refusal),
+        let verdict = self.judge_proof(y)?;
+        if verdict == Verdict::Taken {
+            self.proof = Some(copied(y));
         }
+        Ok(verdict)
     }
 }

@@ -1,20 +1,29 @@
 //! Opening a plan.
-ghost use Rattle.std.specs.Prelude.{◌≡◌, replicate, pos, IfOk, Some};
+ghost use Rattle.std.specs.Prelude.{◌≡◌, ◌≤◌, length, replicate, pos, IfOk, Some};
 ghost use Rattle.opening.specs.Opening.{numbers_of};
 ghost use Rattle.evaluate.specs.Stated.{numbers, numbers_of as terms_of, fitting};
 ghost use Rattle.calls.specs.Opened.{Opens};
 ghost use Rattle.plan.specs.View.{view};
 
-use crate::state::Plan;
+use crate::evaluates::copied;
+use crate::state::{HeldPair, Plan};
 use evaluate::Terms;
 use opening::{Lists, Refusal, opening_fault};
 use std::alloc::{AllocError, Global};
 use table::Table;
 
-fn zeros(heap: Global, n: usize) -> Result<Vec<i64>, AllocError>
-    ensures { IfOk result (λ v. v.items ≡ replicate n (pos 0)) }
+/// A point with all multipliers 0.
+fn unweighted(point: &[i64], rows: usize) -> HeldPair
+    requires ropes { length point.now ≤ 16 }
+    requires rows { rows ≤ 32 }
+    ensures point { result.point.items ≡ point.now }
+    ensures multipliers { result.multipliers.items ≡ replicate rows (pos 0) }
 {
-    vec![in heap; 0i64; n]
+    let zeros = [0i64; 32];
+    HeldPair {
+        point: copied(point),
+        multipliers: copied(&zeros[..rows]),
+    }
 }
 
 /// Terms of lists that fit.
@@ -34,10 +43,7 @@ fn terms_of(
     let u = Vec::from_slice(heap, u)?;
     let lo = Vec::from_slice(heap, lo)?;
     let hi = Vec::from_slice(heap, hi)?;
-    match Terms::new(c, l, u, lo, hi) {
-        Some(terms) => Ok(terms),
-        None => unreachable(),
-    }
+    Ok(Terms::new(c, l, u, lo, hi).unwrap())
 }
 
 impl<G: Table + Drop, A: Table + Drop> Plan<G, A> {
@@ -52,20 +58,13 @@ impl<G: Table + Drop, A: Table + Drop> Plan<G, A> {
             return Err(fault);
         }
         let terms = terms_of(heap, lists.c, lists.l, lists.u, lists.lo, lists.hi)?;
-        let point = zeros(heap, lists.c.len())?;
-        let proof = zeros(heap, lists.lo.len())?;
-        let base = Vec::from_slice(heap, lists.l)?;
-        let multipliers = zeros(heap, lists.lo.len())?;
         Ok(Plan {
             g,
             a,
             terms,
-            held: false,
-            point,
-            refuted: false,
-            proof,
-            base,
-            multipliers,
+            point: None,
+            proof: None,
+            pair: unweighted(lists.l, lists.lo.len()),
         })
     }
 }

@@ -4,7 +4,7 @@ ghost use Rattle.calls.specs.Steps.{show_answer, shown_in};
 ghost use Rattle.calls.specs.Honesty.{ShowLaw};
 ghost use Rattle.plan.specs.View.{view};
 
-use crate::evaluates::{cost_of, floor_of, gap_above};
+use crate::evaluates::gap_above;
 use crate::state::Plan;
 use calls::{Found, Shown};
 use opening::Refusal;
@@ -24,25 +24,17 @@ impl<G: Table, A: Table> Plan<G, A> {
         if let Some(refusal) = length_refusal(self.terms.c.len(), out.len()) {
             return Err(refusal);
         }
-        let floor = floor_of(
-            &self.g,
-            &self.a,
-            &self.terms,
-            self.base.as_slice(),
-            self.multipliers.as_slice(),
-        );
-        if self.refuted {
-            let found = Found::NoneExists;
-            return Ok(Shown { floor, found });
-        }
-        if !self.held {
-            let found = Found::NoPoint;
-            return Ok(Shown { floor, found });
-        }
-        out.copy_from_slice(self.point.as_slice());
-        let cost = cost_of(&self.g, &self.terms, self.point.as_slice());
-        let gap = gap_above(floor, cost);
-        let found = Found::Point { cost, gap };
+        let floor = self.held_floor();
+        let found = match (&self.proof, &self.point) {
+            (Some(_), _) => Found::NoneExists,
+            (None, Some(z)) => {
+                out.copy_from_slice(z);
+                let cost = self.cost_of(z);
+                let gap = gap_above(floor, cost);
+                Found::Point { cost, gap }
+            }
+            (None, None) => Found::NoPoint,
+        };
         Ok(Shown { floor, found })
     }
 }

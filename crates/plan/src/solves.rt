@@ -11,17 +11,19 @@ ghost use Rattle.walk.specs.ProblemLaws.{Lawful};
 ghost use Rattle.walk.specs.Running.{Sized};
 ghost use Rattle.walk.specs.ProblemWalks.{ended, walk_from};
 ghost use Rattle.calls.specs.Offers.{took_all};
+ghost use Rattle.calls.specs.Steps.{unless};
 ghost use Rattle.calls.specs.Solving.{solve_refusal, written, found_offers, last_found, if_met, solve_offers, report, Solves, LawfulSolve};
-ghost use Rattle.plan.specs.Solves.{Fresh, Reports};
+ghost use Rattle.plan.specs.Solves.{Fresh, Reports, Ready};
 ghost use Rattle.plan.specs.View.{view};
 
+use crate::proposers::Proposer;
 use crate::state::Plan;
 use calls::Report;
 use exchange::{End, Exchange, Report as Exchanged, Step, end_after};
 use job::{Job, Verdict};
 use opening::Refusal;
 use reading::read_job;
-use std::alloc::Global;
+use std::alloc::{AllocError, Global};
 use table::Table;
 use walk::{Room, Walked, walk_in};
 
@@ -29,16 +31,16 @@ const MOST_STEPS: u64 = 1_000;
 
 const MOST_MOVES: u64 = 1_000_000;
 
-fn solve_refusal(steps: u64, moves: u64) -> Option<Refusal>
-    ensures { result ≡ solve_refusal steps moves }
+fn check_budgets(steps: u64, moves: u64) -> Result<(), Refusal>
+    ensures { result ≡ unless (solve_refusal steps moves) tt }
 {
     if steps > MOST_STEPS {
-        return Some(Refusal::OfferLimit { index: 0 });
+        return Err(Refusal::OfferLimit { index: 0 });
     }
     if moves > MOST_MOVES {
-        return Some(Refusal::OfferLimit { index: 1 });
+        return Err(Refusal::OfferLimit { index: 1 });
     }
-    None
+    Ok(())
 }
 
 /// Walks on a job that the room was made for.
@@ -48,10 +50,7 @@ fn walk_from(job: &Job, room: &mut Room, at: &mut [i64], budget: u32) -> Walked
     ensures value { ended at.new result ≡ walk_from (problem_of job.now) budget at.old }
     ensures law { Lawful (problem_of job.now) budget at.old at.new result }
 {
-    match walk_in(room, job, at, budget) {
-        Ok(walked) => walked,
-        Err(_) => unreachable(),
-    }
+    walk_in(room, job, at, budget).unwrap()
 }
 
 impl<G: Table, A: Table> Plan<G, A> {
@@ -116,8 +115,8 @@ impl<G: Table, A: Table> Plan<G, A> {
         ensures start { at.new ≡ unwrap_or (view G.Table.meant A.Table.meant self.now).point at.old }
         ensures inside { is_in_bounds (written (view G.Table.meant A.Table.meant self.now)) at.new ≡ true }
     {
-        if self.held {
-            at.copy_from_slice(self.point.as_slice());
+        if let Some(point) = &self.point {
+            at.copy_from_slice(point);
         }
     }
 
@@ -132,29 +131,41 @@ impl<G: Table, A: Table> Plan<G, A> {
         }
     }
 
-    /// The exchange, then the walk, then its end, with all memory at hand; the list has the lower bounds.
-    fn propose(
-        &mut self,
-        job: &Job,
-        exchange: &mut Exchange,
-        room: &mut Room,
-        at: &mut [i64],
-        steps: usize,
-        moves: u32,
-    ) -> Report
-        requires same { problem_of job.now ≡ written (view G.Table.meant A.Table.meant self.old) }
-        requires fresh { Fresh job.now exchange.old }
-        requires room { Sized job.now.ropes job.now.rows room.old }
-        requires lower { at.old ≡ (view G.Table.meant A.Table.meant self.old).numbers.l }
+    /// Takes all memory that a solve needs.
+    fn proposer(&self, heap: Global) -> Result<Proposer, AllocError>
+        ensures { IfOk result (Ready (view G.Table.meant A.Table.meant self.now)) }
+    {
+        let job = read_job(heap, &self.g, &self.a, &self.terms)?;
+        let exchange = Exchange::new(heap, &job)?;
+        let room = Room::new(heap, &job)?;
+        let at = Vec::from_slice(heap, &self.terms.l)?;
+        Ok(Proposer {
+            job,
+            exchange,
+            room,
+            at,
+        })
+    }
+
+    /// The exchange, then the walk, then its end.
+    fn propose(&mut self, proposer: Proposer, steps: usize, moves: u32) -> Report
+        requires { Ready (view G.Table.meant A.Table.meant self.old) proposer }
         ensures report { result ≡ report (view G.Table.meant A.Table.meant self.old) steps moves }
         ensures after { view G.Table.meant A.Table.meant self.new
             ≡ took_all (view G.Table.meant A.Table.meant self.old) (solve_offers (view G.Table.meant A.Table.meant self.old) steps moves) }
         ensures law { LawfulSolve (view G.Table.meant A.Table.meant self.old) steps moves result }
     {
-        let exchanged = self.run_exchange(job, exchange, at, steps);
+        let Proposer {
+            job,
+            mut exchange,
+            mut room,
+            mut at,
+        } = proposer;
+        let at = at.as_mut_slice();
+        let exchanged = self.run_exchange(&job, &mut exchange, at, steps);
         self.start_from(at);
-        let walked = walk_from(job, room, at, moves);
-        self.offer_end(job, at);
+        let walked = walk_from(&job, &mut room, at, moves);
+        self.offer_end(&job, at);
         Report {
             steps: exchanged.steps,
             exchange: exchanged.end,
@@ -173,20 +184,8 @@ impl<G: Table, A: Table> Plan<G, A> {
         ensures value { Solves (view G.Table.meant A.Table.meant self.old) steps moves result (view G.Table.meant A.Table.meant self.new) }
         ensures law { IfOk result (LawfulSolve (view G.Table.meant A.Table.meant self.old) steps moves) }
     {
-        if let Some(refusal) = solve_refusal(steps, moves) {
-            return Err(refusal);
-        }
-        let job = read_job(heap, &self.g, &self.a, &self.terms)?;
-        let mut exchange = Exchange::new(heap, &job)?;
-        let mut room = Room::new(heap, &job)?;
-        let mut at = Vec::from_slice(heap, self.terms.l.as_slice())?;
-        Ok(self.propose(
-            &job,
-            &mut exchange,
-            &mut room,
-            at.as_mut_slice(),
-            steps as usize,
-            moves as u32,
-        ))
+        check_budgets(steps, moves)?;
+        let proposer = self.proposer(heap)?;
+        Ok(self.propose(proposer, steps as usize, moves as u32))
     }
 }

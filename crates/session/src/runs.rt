@@ -22,9 +22,8 @@ fn make_solve<G: Table, A: Table>(
     ensures { AnswersCall (view G.Table.meant A.Table.meant plan.old) (solve steps moves) result (view G.Table.meant A.Table.meant plan.new) }
 {
     match plan.solve(heap, steps, moves) {
-        Ok(report) => Ok(Answer::Solved(Ok(report))),
         Err(Refusal::Memory) => Err(Refusal::Memory),
-        Err(refusal) => Ok(Answer::Solved(Err(refusal))),
+        answer => Ok(Answer::Solved(answer)),
     }
 }
 
@@ -67,8 +66,8 @@ pub fn run<G: Table, A: Table>(
         → HonestAnswers (view G.Table.meant A.Table.meant plan.old) (map call_of calls.now) result }
 {
     let mut answers = Vec::with_capacity(heap, calls.len())?;
-    for i in 0..calls.len() {
-        let answer = make(plan, heap, &calls[i])?;
+    for call in calls {
+        let answer = make(plan, heap, call)?;
         answers.push_reserved(answer);
     }
     Ok(answers)

@@ -3,8 +3,8 @@ use Rattle.plan.specs.View.{view}
 use Rattle.session.proofs.Turns.{Turn}
 use Rattle.session.proofs.runs.run.Given as goal
 
-abbrev pub invariant-loop-i : goal.invariant-loop-i
-invariant-loop-i g l =
-    (vec_len l.answers ≡ l.i)
+abbrev pub invariant-loop-call : goal.invariant-loop-call
+invariant-loop-call g l =
+    (vec_len l.answers ≡ l.call-index)
     × (length l.calls ≤ vec_capacity l.answers)
-    × Turn (view g.G.Table.meant g.A.Table.meant l.initial.plan) l.calls l.i (vec_items l.answers) (view g.G.Table.meant g.A.Table.meant l.plan)
+    × Turn (view g.G.Table.meant g.A.Table.meant l.initial.plan) l.calls l.call-index (vec_items l.answers) (view g.G.Table.meant g.A.Table.meant l.plan)

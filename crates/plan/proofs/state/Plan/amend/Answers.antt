@@ -1,34 +1,27 @@
-use Rattle.std.proofs.Common.{◌≡◌, vec_items, Option, sym, refl, ap, ◌∙◌}
-use Rattle.duality.specs.Lists.{places}
-use Rattle.evaluate.specs.Terms.{problem_of}
+use Rattle.std.proofs.Common.{sym}
 use Rattle.evaluate.specs.Stated.{numbers_of}
-use Rattle.evaluate.specs.Findings.{feasible}
-use Rattle.evaluate.specs.Floors.{refuting}
+use Rattle.reasons.proofs.Given.{no_grid}
+use Rattle.evaluate.specs.Terms.{problem_of}
 use Rattle.calls.specs.States.{State}
-use Rattle.opening.specs.declared.refusal.Refusal.{Refusal}
-use Rattle.calls.specs.Steps.{amendment, standing, if_allowed}
-use Rattle.plan.specs.View.{view, held_if}
-use Rattle.plan.proofs.Amended.{amend_after, amend_answer_lem, dropped_is}
+use Rattle.plan.specs.View.{view}
+use Rattle.plan.proofs.Amended.{amend_after, amend_answered}
+use Rattle.plan.proofs.Insides.{stands_inside}
 use Rattle.plan.proofs.state.Plan.amend.Goals as goal
 
-pub returns : goal.returns
-returns g c =
-    let v = c.args.self.now in
-    let s : State = view g.G.Table.meant g.A.Table.meant v in
-    let t = c.amend_terms.new.terms in
-    let x = numbers_of t in
-    let z = vec_items v.point in
-    let y = vec_items v.proof in
-    let none = sym c.in_default.ensures.answer in
-    let ex = c.in_default.ensures.after ∙ ap (λ (o : Option Refusal). if_allowed o (amendment s.numbers c.args.amendment) s.numbers) none in
-    let ep : held_if c.point_stands-held.result z ≡ standing (λ w. feasible (problem_of s.g s.a t) (places w)) s.point =
-    rw c.as_slice.ensures.value at (c.point_stands-held.ensures.value s.g) in
-    let eq : held_if c.proof_stands-refuted.result y ≡ standing (λ w. refuting (problem_of s.g s.a t) (places w)) s.proof =
-    rw c.as_slice-2.ensures.value at (c.proof_stands-refuted.ensures s.g) in
-    let u : State = record { g = s.g; a = s.a; numbers = x; point = held_if c.point_stands-held.result z; proof = held_if c.proof_stands-refuted.result y; pair = s.pair } in
-    record {
-      answer =
-          amend_answer_lem s c.args.amendment x (held_if c.point_stands-held.result z) (held_if c.proof_stands-refuted.result y) none ex ep eq _
-          (dropped_is s v.held c.point_stands-held.result v.refuted c.proof_stands-refuted.result z y _ _ u refl refl refl refl c.was_lost-point.ensures c.was_lost-proof.ensures);
-      after = amend_after s c.args.amendment x (held_if c.point_stands-held.result z) (held_if c.proof_stands-refuted.result y) none ex ep eq;
-    }
+pub invariant_of-self-2-clause-inside : goal.invariant_of-self-2-clause-inside
+invariant_of-self-2-clause-inside g c =
+    stands_inside (problem_of no_grid (g.A.Table.meant c.args.self.now.a) c.amend_terms.new.terms) c.args.self.now.point c.drop_broken.new.point
+    c.drop_broken.ensures.pulls (c.drop_broken.ensures.value no_grid)
+
+pub returns-clause-answer : goal.returns-clause-answer
+returns-clause-answer g c =
+    let s : State = view g.G.Table.meant g.A.Table.meant c.args.self.now in
+    amend_answered s c.args.amendment (numbers_of c.amend_terms.new.terms) _ _ (sym c.in_default.ensures.answer) c.in_default.ensures.after
+    (c.drop_broken.ensures.value s.g) (c.drop_stale.ensures.value s.g)
+    c.drop_broken.result c.drop_stale.result c.drop_broken.ensures.dropped c.drop_stale.ensures.dropped
+
+pub returns-clause-after : goal.returns-clause-after
+returns-clause-after g c =
+    let s : State = view g.G.Table.meant g.A.Table.meant c.args.self.now in
+    amend_after s c.args.amendment (numbers_of c.amend_terms.new.terms) _ _ (sym c.in_default.ensures.answer) c.in_default.ensures.after
+    (c.drop_broken.ensures.value s.g) (c.drop_stale.ensures.value s.g)

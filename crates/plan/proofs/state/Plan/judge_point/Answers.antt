@@ -4,7 +4,7 @@ use Rattle.plan.specs.View.{view}
 use Rattle.reasons.proofs.Fitting.{point_many}
 use Rattle.plan.proofs.state.Plan.judge_point.Goals as goal
 
-pub cost_of-new-requires : goal.cost_of-new-requires
-cost_of-new-requires g c =
+pub cost_of-requires : goal.cost_of-requires
+cost_of-requires g c =
     point_many (problem (view g.G.Table.meant g.A.Table.meant c.args.self.now)) c.args.z.now
     (sym (c.in_default.ensures (g.G.Table.meant c.args.self.now.g)))

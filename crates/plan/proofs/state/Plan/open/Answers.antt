@@ -1,4 +1,4 @@
-use Rattle.std.proofs.Common.{◌≡◌, length, vec_len, sym, refl, ap}
+use Rattle.std.proofs.Common.{◌≡◌, length, vec_len, sym, ap}
 use Rattle.opening.specs.Opening.{numbers_of}
 use Rattle.evaluate.specs.Stated.{Numbers}
 use Rattle.plan.proofs.Opened.{fitting_is, zeros_fit, lower_fit}
@@ -8,14 +8,14 @@ pub terms_of-requires : goal.terms_of-requires
 terms_of-requires g c =
     fitting_is (g.G.Table.meant c.args.g) (g.A.Table.meant c.args.a) (numbers_of c.args.lists.now) (sym c.in_default.ensures.value)
 
-pub invariant_of-result : goal.invariant_of-result
-invariant_of-result g c =
+pub invariant_of-result-clause-bases : goal.invariant_of-result-clause-bases
+invariant_of-result-clause-bases g c =
     let x = numbers_of c.args.lists.now in
-    let e = c.in_ok-terms.ensures in
-    let n : vec_len c.in_ok-terms.terms.c ≡ length x.c = ap (λ (t : Numbers). t.ropes) e in
-    let m : vec_len c.in_ok-terms.terms.lo ≡ length x.lo = ap (λ (t : Numbers). t.rows) e in
-    let fp = zeros_fit _ _ 32768 _ n c.in_ok-point.ensures in
-    let fr = zeros_fit _ _ 16777216 _ m c.in_ok-proof.ensures in
-    let fb = lower_fit (g.G.Table.meant c.args.g) (g.A.Table.meant c.args.a) x (sym c.in_default.ensures.value) _ _ n c.in_ok-base.ensures.items in
-    let fw = zeros_fit _ _ 16777216 _ m c.in_ok-multipliers.ensures in
-    record { inside = refl; pulls = fp; refuters = fr; bases = fb; weights = fw }
+    let n : vec_len c.in_ok-terms.terms.c ≡ length x.c = ap (λ (t : Numbers). t.ropes) c.in_ok-terms.ensures in
+    lower_fit (g.G.Table.meant c.args.g) (g.A.Table.meant c.args.a) x (sym c.in_default.ensures.value) _ _ n c.unweighted.ensures.point
+
+pub invariant_of-result-clause-weights : goal.invariant_of-result-clause-weights
+invariant_of-result-clause-weights g c =
+    let x = numbers_of c.args.lists.now in
+    let m : vec_len c.in_ok-terms.terms.lo ≡ length x.lo = ap (λ (t : Numbers). t.rows) c.in_ok-terms.ensures in
+    zeros_fit _ _ 16777216 _ m c.unweighted.ensures.multipliers

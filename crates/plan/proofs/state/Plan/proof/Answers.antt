@@ -1,35 +1,25 @@
-use Rattle.std.proofs.Common.{vec_len, ap, ◌∙◌, rules}
+use Rattle.std.proofs.Common.{vec_len, refl, ap, ◌∙◌}
 use Rattle.duality.specs.Tests.{many_within}
 use Rattle.calls.specs.States.{State, problem}
-use Rattle.calls.specs.Refusing.{proof_refusal}
 use Rattle.calls.proofs.Refused.{proof_refuses}
 use Rattle.plan.specs.View.{view}
 use Rattle.reasons.proofs.Fitting.{proof_many}
-use Rattle.plan.proofs.Refused.{allowed_none, decides_lawful}
+use Rattle.plan.proofs.Refused.{allowed_none, not_ok, decides_lawful}
 use Rattle.plan.proofs.state.Plan.proof.Goals as goal
 
-pub invariant_of-self : goal.invariant_of-self
-invariant_of-self g c =
+pub invariant_of-self-clause-refuters : goal.invariant_of-self-clause-refuters
+invariant_of-self-clause-refuters g c =
     let s : State = view g.G.Table.meant g.A.Table.meant c.args.self.now in
-    let p = c.args.self.now in
-    let n = vec_len p.terms.lo in
-    let m = proof_many (problem s) c.args.y.now (allowed_none _ _ _ c.in-Ok-Taken.ensures) in
-    record { inside = p.inside; pulls = p.pulls; refuters = ap (many_within n 16777216) c.copy_from_slice.ensures.items ∙ m; bases = p.bases; weights = p.weights }
+    ap (many_within (vec_len c.args.self.now.terms.lo) 16777216) c.copied.ensures ∙ proof_many (problem s) c.args.y.now (allowed_none _ _ _ c.in_ok-verdict.ensures)
 
-pub returns-in-Ok-Taken : goal.returns-in-Ok-Taken
-returns-in-Ok-Taken g c =
-    let s : State = view g.G.Table.meant g.A.Table.meant c.args.self.now in
-    let e = c.in-Ok-Taken.ensures in
-    record { answer = search rules; after = search rules; lawful = decides_lawful _ (proof_refusal (problem s) c.args.y.now) _ _ (proof_refuses (problem s) c.args.y.now) e }
+pub returns-in_err-verdict-clause-lawful : goal.returns-in_err-verdict-clause-lawful
+returns-in_err-verdict-clause-lawful g c =
+    decides_lawful _ _ _ (proof_refuses (problem (view g.G.Table.meant g.A.Table.meant c.args.self.now)) c.args.y.now) c.in_err-verdict.ensures (not_ok _ c.from_residual.ensures.0)
 
-pub returns-in-Ok-Kept : goal.returns-in-Ok-Kept
-returns-in-Ok-Kept g c =
-    let s : State = view g.G.Table.meant g.A.Table.meant c.args.self.now in
-    let e = c.in-Ok-Kept.ensures in
-    record { answer = search rules; after = search rules; lawful = decides_lawful _ (proof_refusal (problem s) c.args.y.now) _ _ (proof_refuses (problem s) c.args.y.now) e }
+pub returns-then-eq-clause-lawful : goal.returns-then-eq-clause-lawful
+returns-then-eq-clause-lawful g c =
+    decides_lawful _ _ _ (proof_refuses (problem (view g.G.Table.meant g.A.Table.meant c.args.self.now)) c.args.y.now) c.in_ok-verdict.ensures refl
 
-pub returns-in-Err : goal.returns-in-Err
-returns-in-Err g c =
-    let s : State = view g.G.Table.meant g.A.Table.meant c.args.self.now in
-    let e = c.in-Err.ensures in
-    record { answer = search rules; after = search rules; lawful = decides_lawful _ (proof_refusal (problem s) c.args.y.now) _ _ (proof_refuses (problem s) c.args.y.now) e }
+pub returns-else-eq-clause-lawful : goal.returns-else-eq-clause-lawful
+returns-else-eq-clause-lawful g c =
+    decides_lawful _ _ _ (proof_refuses (problem (view g.G.Table.meant g.A.Table.meant c.args.self.now)) c.args.y.now) c.in_ok-verdict.ensures refl

@@ -18,40 +18,35 @@ use Rattle.plan.specs.View.{view}
 use Rattle.plan.proofs.Proposing.{lower_inside, written_same, proposed_after, proposed_report, proposed_law}
 use Rattle.plan.proofs.state.Plan.propose.Goals as goal
 
-pub run_exchange-exchanged-requires : goal.run_exchange-exchanged-requires
-run_exchange-exchanged-requires g c =
+pub run_exchange-exchanged-requires-clause-inside : goal.run_exchange-exchanged-requires-clause-inside
+run_exchange-exchanged-requires-clause-inside g c =
     let same = c.requires.same in
-    record {
-      fresh = c.requires.fresh;
-      sized = ap (λ (P : Problem). P.ropes) same;
-      inside =
-          ap (is_in_bounds (problem_of c.args.job.now)) c.requires.lower
-          ∙ lower_inside c.args.self.now.terms (problem_of c.args.job.now) (ap (λ (P : Problem). P.ropes) same) (ap (λ (P : Problem). P.l) same) (ap (λ (P : Problem). P.u) same);
-    }
+    ap (is_in_bounds (problem_of c.args.proposer.job)) (c.as_mut_slice-at.ensures.value ∙ c.requires.lower)
+    ∙ lower_inside c.args.self.now.terms (problem_of c.args.proposer.job) (ap (λ (P : Problem). P.ropes) same) (ap (λ (P : Problem). P.l) same) (ap (λ (P : Problem). P.u) same)
 
 pub start_from-requires : goal.start_from-requires
 start_from-requires g c =
     let s : State = view g.G.Table.meant g.A.Table.meant c.args.self.now in
     let s₁ : State = view g.G.Table.meant g.A.Table.meant c.run_exchange-exchanged.new.self in
-    let P = problem_of c.args.job.now in
+    let P = problem_of c.args.proposer.job in
     let z₁ = c.run_exchange-exchanged.new.at in
     let h = c.run_exchange-exchanged.ensures in
     let w : written s₁ ≡ P = ap written h.after ∙ written_same _ s (offers_same s (found_offers s.numbers (exchanged P c.args.steps).offers)) ∙ sym c.requires.same in
     ap (λ (Q : Problem). is_in_bounds Q z₁) w ∙ h.inside
 
-pub walk_from-walked-requires : goal.walk_from-walked-requires
-walk_from-walked-requires g c =
+pub walk_from-walked-requires-clause-inside : goal.walk_from-walked-requires-clause-inside
+walk_from-walked-requires-clause-inside g c =
     let s : State = view g.G.Table.meant g.A.Table.meant c.args.self.now in
     let s₁ : State = view g.G.Table.meant g.A.Table.meant c.run_exchange-exchanged.new.self in
-    let P = problem_of c.args.job.now in
+    let P = problem_of c.args.proposer.job in
     let z₂ = c.start_from.new.at in
     let h = c.run_exchange-exchanged.ensures in
     let w : written s₁ ≡ P = ap written h.after ∙ written_same _ s (offers_same s (found_offers s.numbers (exchanged P c.args.steps).offers)) ∙ sym c.requires.same in
-    record { room = c.requires.room; inside = sym (ap (λ (Q : Problem). is_in_bounds Q z₂) w) ∙ c.start_from.ensures.inside }
+    sym (ap (λ (Q : Problem). is_in_bounds Q z₂) w) ∙ c.start_from.ensures.inside
 
 pub offer_end-requires : goal.offer_end-requires
 offer_end-requires g c =
-    let j = c.args.job.now in
+    let j = c.args.proposer.job in
     let z₃ = c.walk_from-walked.new.at in
     wider j.ropes z₃ (a_point j z₃ c.walk_from-walked.ensures.law.in_bounds)
 
@@ -62,7 +57,7 @@ returns g c =
     let s₂ : State = view g.G.Table.meant g.A.Table.meant c.offer_end.new.self in
     let b = c.args.steps in
     let m = c.args.moves in
-    let z₀ = c.args.at.now in
+    let z₀ = c.as_mut_slice-at.result.now in
     let z₁ = c.run_exchange-exchanged.new.at in
     let z₂ = c.start_from.new.at in
     let z₃ = c.walk_from-walked.new.at in
@@ -76,8 +71,9 @@ returns g c =
     let l₃ = subst (λ (P : Problem). ended z₃ w ≡ walk_from P m z₂) same c.walk_from-walked.ensures.value in
     let e₂ = subst (λ (P : Problem). s₂ ≡ took_all s₁ (if_met (judged P (places z₃)) z₃)) same c.offer_end.ensures in
     let lw = subst (λ (P : Problem). Lawful P m z₂ z₃ w) same c.walk_from-walked.ensures.law in
+    let l₀ = c.as_mut_slice-at.ensures.value ∙ c.requires.lower in
     record {
-      report = proposed_report s s₁ s₂ z₀ z₁ z₂ z₃ b m x w rx e₁ c.requires.lower l₁ c.start_from.ensures.start l₃ e₂ lw;
-      after = proposed_after s s₁ s₂ z₀ z₁ z₂ z₃ b m x w rx e₁ c.requires.lower l₁ c.start_from.ensures.start l₃ e₂ lw;
-      law = proposed_law s s₁ s₂ z₀ z₁ z₂ z₃ b m x w rx e₁ c.requires.lower l₁ c.start_from.ensures.start l₃ e₂ lw;
+      report = proposed_report s s₁ s₂ z₀ z₁ z₂ z₃ b m x w rx e₁ l₀ l₁ c.start_from.ensures.start l₃ e₂ lw;
+      after = proposed_after s s₁ s₂ z₀ z₁ z₂ z₃ b m x w rx e₁ l₀ l₁ c.start_from.ensures.start l₃ e₂ lw;
+      law = proposed_law s s₁ s₂ z₀ z₁ z₂ z₃ b m x w rx e₁ l₀ l₁ c.start_from.ensures.start l₃ e₂ lw;
     }
