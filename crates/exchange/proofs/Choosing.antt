@@ -1,5 +1,5 @@
 -- The definitions of breaches and choices, case by case.
-use Rattle.std.proofs.Common.{◌≡◌, ℕ, ◌+◌, ◌^◌, ◌<◌, ◌≤◌, Bool, true, false, ltb, List, length, ℤ, pos, nat_abs, Some, vec_items, sym, refl, ap, ◌∙◌, le_refl, le-ltb, lt-ltb}
+use Rattle.std.proofs.Common.{◌≡◌, ℕ, ◌+◌, ◌^◌, ◌<◌, ◌≤◌, Bool, true, false, ltb, List, length, ℤ, pos, nat_abs, vec_items, sym, refl, ap, ◌∙◌, le_refl, le-ltb, lt-ltb}
 use lib.Signed.{lt_z}
 use Rattle.std.specs.Option.{unwrap_or}
 use Rattle.duality.specs.Lists.{places}

@@ -1,12 +1,14 @@
 -- A list that a loop writes place by place, seen in its first places.
-use Rattle.std.proofs.Common.{◌≡◌, ℕ, zero, suc, ◌-◌, ◌<◌, ◌≤◌, List, [], ◌∷◌, ◌++◌, map, length, get_or, take, drop, set, replicate, ℤ, pos, sym, ap, ◌∙◌, subst, arith}
+use Rattle.std.proofs.Common.{◌≡◌, ℕ, zero, suc, ◌+◌, ◌-◌, ◌<◌, ◌≤◌, List, [], ◌∷◌, ◌++◌, map, length, get_or, take, drop, set, replicate, ℤ, pos, sym, refl, ap, ◌∙◌, subst, arith}
 use native.Mathlib.Nat.{sub-zero}
-use lib.Ieee.{binary64, of_bits}
+use lib.Ieee.{Float, nan, binary64, of_bits}
 use Rattle.std.specs.List.{range_with_len}
 use borrow.Rule.Slice.PartMut.{post_of}
 use Rattle.exchange.specs.Offers.{filled}
 use Rattle.std.proofs.lemmas.List.FromFn.{fill_by_all}
-use Rattle.std.proofs.lemmas.List.{length-take-le, get_or-take, drop-replicate, length-replicate, take_at, drop_at}
+use Rattle.std.proofs.lemmas.List.{length-take-le, get_or-take, drop-replicate, length-replicate, take_at, drop_at, take_more, take_more_set, map-append, drop-set-lt, drop-drop, length-set, length-map, take-append-drop, take_all, drop-map, take-map}
+use Rattle.exchange.specs.Rounding.{pulled, pressed, scaled, in_parts}
+use Rattle.elimination.specs.Nearest.{nearest}
 
 pub take_filled : {X : Type 0} (f : ℕ → X) (xs : List X) (n : ℕ) (d : X) → n ≤ length xs → ((k : ℕ) → k < n → get_or xs k d ≡ f k) → take n xs ≡ map f (range_with_len 0 n)
 take_filled f xs n d l h = fill_by_all f (take n xs) n d (length-take-le n xs l) (λ k t. get_or-take n xs k d t ∙ h k t)
@@ -39,3 +41,31 @@ take_filled_up c n xs l = take_at xs (replicate (c - length xs) (pos 0)) n l
 
 pub drop_filled_up : (c n : ℕ) (xs : List ℤ) → length xs ≡ n → drop n (filled c xs) ≡ replicate (c - n) (pos 0)
 drop_filled_up c n xs l = drop_at xs (replicate (c - length xs) (pos 0)) n l ∙ rw l
+
+-- a list of n places that a loop fills with rounded numbers
+module _ (n k : ℕ) (xs : List ℤ) (us : List Float) where
+  pub one_filled : (y : ℤ) → k < n → k < length us → take k xs ≡ map nearest (take k us) → drop k xs ≡ replicate (n - k) (pos 0) → length xs ≡ n → y ≡ nearest (get_or us k nan) →
+      (take (k + 1) (set xs k y) ≡ map nearest (take (k + 1) us)) × (drop (k + 1) (set xs k y) ≡ replicate (n - (k + 1)) (pos 0)) × (length (set xs k y) ≡ n)
+  one_filled y h l a b c e =
+      let lt : k < k + 1 = omega arith in
+      let t : k < length xs = omega arith in
+      let p = take_more us k nan l in
+      let m : n - k - 1 ≡ n - (k + 1) = omega arith in (
+        take_more_set xs k y t ∙ rw (a, e) (sym (ap (map nearest) p ∙ map-append nearest (take k us) (get_or us k nan ∷ []))),
+        drop-set-lt (k + 1) xs k y lt ∙ sym (drop-drop 1 k xs) ∙ ap (drop 1) b ∙ drop-replicate 1 (n - k) (pos 0) ∙ ap (λ (i : ℕ). replicate i (pos 0)) m,
+        length-set xs k y ∙ c,
+      )
+
+  pub all_filled : k ≡ length us → take k xs ≡ map nearest (take k us) → drop k xs ≡ replicate (n - k) (pos 0) → xs ≡ filled n (map nearest us)
+  all_filled e a b =
+      let l = length-map us nearest in
+      let m : n - k ≡ n - length (map nearest us) = omega arith in
+      sym (take-append-drop k xs) ∙ rw (a, b) (ap (λ z. map nearest z ++ replicate (n - k) (pos 0)) (take_all k us (omega arith)) ∙ ap (λ (i : ℕ). map nearest us ++ replicate i (pos 0)) m)
+
+-- unknowns that are brought to 256ths and then rounded
+pub pressed_parts : (n m : ℕ) (us : List Float) → pulled (take m (drop n (map in_parts us))) ≡ pressed (take m (drop n us))
+pressed_parts n m us = ap (λ z. pulled (take m z)) (drop-map in_parts n us) ∙ ap pulled (take-map in_parts m (drop n us)) ∙ twice (take m (drop n us))
+  where
+    twice : (xs : List Float) → pulled (map in_parts xs) ≡ pressed xs
+    twice [] = refl
+    twice (x ∷ xs) = ap (λ z. scaled x ∷ z) (twice xs)

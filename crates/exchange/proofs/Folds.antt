@@ -2,7 +2,6 @@
 use Rattle.std.proofs.Common.{◌≡◌, ℕ, ◌+◌, true, false, ◌||◌, List, [], ◌∷◌, ℤ, pos, refl, ap, ◌⊎◌, inl, inr, add-one}
 use Rattle.std.specs.List.{list_any}
 use Rattle.exchange.specs.Breaches.{same, holds, upto}
-use Rattle.duality.specs.Lists.{places}
 use Rattle.exchange.specs.Offers.{pressure_of, inside_limit}
 use Rattle.exchange.specs.declared.members.Limit.{Limit}
 use Rattle.exchange.specs.declared.members.Member.{Member}

@@ -10,20 +10,8 @@ fn wrongness(side: Side, pressure: i64) -> u64
     ensures { result ≡ wrongness_of side pressure }
 {
     match side {
-        Side::Lower => {
-            if pressure < 0 {
-                pressure.unsigned_abs()
-            } else {
-                0
-            }
-        }
-        Side::Upper => {
-            if pressure > 0 {
-                pressure.unsigned_abs()
-            } else {
-                0
-            }
-        }
+        Side::Lower => pressure.min(0).unsigned_abs(),
+        Side::Upper => pressure.max(0).unsigned_abs(),
     }
 }
 

@@ -2,37 +2,14 @@
 ghost use Rattle.std.specs.Prelude.{◌≡◌, ℕ, ◌+◌, ◌≤◌, ◌++◌, map, length, take, drop};
 ghost use Rattle.std.specs.List.{range_with_len};
 ghost use Rattle.job.specs.Numbers.{problem_of};
-ghost use Rattle.exchange.specs.Rounding.{pulled, pressed};
 ghost use Rattle.exchange.specs.Offers.{filled, inside_bounds, inside_limit, pressure_of, multipliers as multipliers_of};
 
 use crate::members::Limit;
 use crate::rounded::Rounded;
-use crate::rounds::{round_pressures, round_pulls};
 use job::Job;
 
 /// A multiplier's limit, in 256ths.
 const LIMIT: i64 = 16_777_216;
-
-/// The first n unknowns, rounded.
-pub(crate) fn pulls_of(unknowns: &[f64; 32], n: usize) -> [i64; 16]
-    requires { n ≤ 16 }
-    ensures { result ≡ filled 16 (pulled (take n unknowns.now)) }
-{
-    let mut pulls = [0; 16];
-    round_pulls(&unknowns[0..n], &mut pulls[0..n]);
-    pulls
-}
-
-/// The m unknowns after the first n, in 256ths, rounded.
-pub(crate) fn pressures_of(unknowns: &[f64; 32], n: usize, m: usize) -> [i64; 16]
-    requires ropes { n ≤ 16 }
-    requires members { m ≤ 16 }
-    ensures { result ≡ filled 16 (pressed (take m (drop n unknowns.now))) }
-{
-    let mut pressures = [0; 16];
-    round_pressures(&unknowns[n..n + m], &mut pressures[0..m]);
-    pressures
-}
 
 /// The pulls held inside the bounds.
 pub(crate) fn point_of(job: &Job, mut pulls: [i64; 16]) -> [i64; 16]

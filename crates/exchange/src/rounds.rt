@@ -1,26 +1,36 @@
 //! Unknowns in whole numbers.
-ghost use Rattle.std.specs.Prelude.{◌≡◌, length};
-ghost use Rattle.exchange.specs.Rounding.{pulled, pressed};
+ghost use Rattle.std.specs.Prelude.{◌≡◌, ◌≤◌, map, length, take, drop};
+ghost use Rattle.exchange.specs.Offers.{filled};
+ghost use Rattle.exchange.specs.Rounding.{pulled, pressed, in_parts as in_parts_of};
 
 use elimination::nearest;
 
 /// Multipliers are kept in 256ths.
 const SCALE: f64 = 256.0;
 
-pub(crate) fn round_pulls(unknowns: &[f64], pulls: &mut [i64])
-    requires { length unknowns.now ≡ length pulls.old }
-    ensures { pulls.new ≡ pulled unknowns.now }
+/// The unknowns, rounded.
+pub(crate) fn rounded(unknowns: &[f64]) -> [i64; 16]
+    requires { length unknowns.now ≤ 16 }
+    ensures { result ≡ filled 16 (pulled unknowns.now) }
 {
-    for k in 0..pulls.len() {
-        pulls[k] = nearest(unknowns[k]);
+    let mut whole = [0; 16];
+    for (k, x) in unknowns.iter().enumerate() {
+        whole[k] = nearest(*x);
     }
+    whole
 }
 
-pub(crate) fn round_pressures(unknowns: &[f64], pressures: &mut [i64])
-    requires { length unknowns.now ≡ length pressures.old }
-    ensures { pressures.new ≡ pressed unknowns.now }
+fn in_parts(unknowns: &[f64; 32]) -> [f64; 32]
+    ensures { result ≡ map in_parts_of unknowns.now }
 {
-    for k in 0..pressures.len() {
-        pressures[k] = nearest(unknowns[k] * SCALE);
-    }
+    unknowns.map(|y| y * SCALE)
+}
+
+/// The m unknowns after the first n, in 256ths, rounded.
+pub(crate) fn pressures_of(unknowns: &[f64; 32], n: usize, m: usize) -> [i64; 16]
+    requires ropes { n ≤ 16 }
+    requires members { m ≤ 16 }
+    ensures { result ≡ filled 16 (pressed (take m (drop n unknowns.now))) }
+{
+    rounded(&in_parts(unknowns)[n..n + m])
 }

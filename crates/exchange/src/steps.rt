@@ -9,8 +9,9 @@ ghost use Rattle.exchange.specs.Steps.{changed, Follows, choice_at, fits, step_o
 
 use crate::exchanges::Exchange;
 use crate::members::{Choice, Offer, Step};
-use crate::offers::{point_of, pressures_of, pulls_of};
+use crate::offers::point_of;
 use crate::rounded::Rounded;
+use crate::rounds::{pressures_of, rounded};
 use crate::working::WorkingSet;
 use elimination::{LARGEST, solve};
 use job::Job;
@@ -26,16 +27,16 @@ impl WorkingSet<'_> {
             (take (size_of (problem_of self.now.job.now) self.now.members.now) unknowns.now) }
     {
         let (job, members) = (self.job, self.members);
-        let pulls = pulls_of(unknowns, job.ropes);
+        let pulls = rounded(&unknowns[..job.ropes]);
         let pressures = pressures_of(unknowns, job.ropes, members.len());
-        let rounded = Rounded {
+        let solution = Rounded {
             job,
             members,
             pulls: &pulls[0..job.ropes],
             pressures: &pressures[0..members.len()],
         };
-        let choice = rounded.choose();
-        let multipliers = rounded.multipliers();
+        let choice = solution.choose();
+        let multipliers = solution.multipliers();
         let point = point_of(job, pulls);
         (Offer { point, multipliers }, choice)
     }

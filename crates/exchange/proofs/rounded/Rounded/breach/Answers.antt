@@ -2,7 +2,7 @@ use Rattle.std.proofs.Common.{◌≡◌, true, false, nat_abs, ap, ◌∙◌, ar
 use lib.Signed.{lt_z}
 use Rattle.std.proofs.lemmas.Int.{to_z-of_z}
 use Rattle.job.specs.Numbers.{problem_of}
-use Rattle.exchange.specs.Members.{low, high}
+use Rattle.exchange.specs.Members.{low}
 use Rattle.exchange.specs.Breaches.{value_at, side_of}
 use Rattle.exchange.proofs.Choosing.{breach_is}
 use Rattle.exchange.proofs.rounded.Rounded.breach.Goals as goal

@@ -8,8 +8,8 @@ use Rattle.exchange.specs.Offers.{pulls_of, multipliers, filled}
 use Rattle.exchange.proofs.Readings.{front, pulls_long, pressures_long, pulls_same, pressures_same, pulls_point, offer_is}
 use Rattle.exchange.proofs.working.WorkingSet.reading.Goals as goal
 
-pub invariant_of-rounded : goal.invariant_of-rounded
-invariant_of-rounded c =
+pub invariant_of-solution : goal.invariant_of-solution
+invariant_of-solution c =
     let j = c.args.self.now.job.now in
     let X = c.args.unknowns.now in
     let n = j.ropes in
@@ -19,7 +19,7 @@ invariant_of-rounded c =
     let l = pulls_long n m X h in
     let k = pressures_long n m X h in
     record {
-      point = subst P (sym (front 16 n (pulled (take n X)) c.pulls_of-pulls.result l c.pulls_of-pulls.ensures)) (pulls_point n m X h c.requires);
+      point = subst P (sym (front 16 n (pulled (take n X)) c.rounded-pulls.result l c.rounded-pulls.ensures)) (pulls_point n m X h c.requires);
       paired = ap length (front 16 m (pressed (take m (drop n X))) c.pressures_of-pressures.result k c.pressures_of-pressures.ensures) ∙ k;
     }
 
@@ -35,12 +35,12 @@ returns c =
     let us = take (n + m) X in
     let l = pulls_long n m X h in
     let k = pressures_long n m X h in
-    let x = front 16 n (pulled (take n X)) c.pulls_of-pulls.result l c.pulls_of-pulls.ensures in
+    let x = front 16 n (pulled (take n X)) c.rounded-pulls.result l c.rounded-pulls.ensures in
     let y = front 16 m (pressed (take m (drop n X))) c.pressures_of-pressures.result k c.pressures_of-pressures.ensures in
     record {
       offer =
-          offer_is Q ms us (pulled (take n X)) (pressed (take m (drop n X))) c.point_of-point.result c.multipliers-multipliers.result c.pulls_of-pulls.result
-          l (pulls_same n m X h) (pressures_same n m X h) c.pulls_of-pulls.ensures c.point_of-point.ensures (length-map-range_with_len _ 0 n)
+          offer_is Q ms us (pulled (take n X)) (pressed (take m (drop n X))) c.point_of-point.result c.multipliers-multipliers.result c.rounded-pulls.result
+          l (pulls_same n m X h) (pressures_same n m X h) c.rounded-pulls.ensures c.point_of-point.ensures (length-map-range_with_len _ 0 n)
           (c.multipliers-multipliers.ensures ∙ ap (λ z. filled 32 (multipliers Q ms z)) y);
       choice = c.choose-choice.ensures ∙ ap (λ z. chosen Q ms z (take (m - 0) c.pressures_of-pressures.result)) (x ∙ pulls_same n m X h) ∙ ap (λ z. chosen Q ms (pulls_of Q us) z)
           (y ∙ pressures_same n m X h);

@@ -1,5 +1,4 @@
-use Rattle.std.proofs.Common.{◌≡◌, ℕ, ◌+◌, ◌≤◌, length, replicate, take, sym, ap, ◌∙◌, arith}
-use lib.Ieee.{binary64, of_bits}
+use Rattle.std.proofs.Common.{◌≡◌, ℕ, ◌+◌, length, sym, ap, ◌∙◌, arith}
 use Rattle.std.proofs.lemmas.List.{take_at}
 use Rattle.elimination.specs.Lines.{seen}
 use Rattle.exchange.proofs.Filling.{square_long}
