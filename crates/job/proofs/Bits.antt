@@ -1,11 +1,9 @@
 -- Numbers that went to bits and are read again.
-use Rattle.std.proofs.Common.{◌≡◌, ℕ, ◌^◌, ◌<◌, ◌≤◌, List, length, get_or, ℤ, pos, ◌+ℤ◌, ◌-ℤ◌, ◌*ℤ◌, nat_abs, ap, ◌∙◌, arith, w64, SFits, to_z, of_z}
+use Rattle.std.proofs.Common.{◌≡◌, ℕ, ◌^◌, ◌<◌, ◌≤◌, List, length, get_or, ℤ, pos, ◌+ℤ◌, ◌*ℤ◌, nat_abs, ap, ◌∙◌, arith, w64, SFits, to_z, of_z}
 use Rattle.std.proofs.lemmas.List.{get_or_read_under}
 use Rattle.std.proofs.lemmas.Int.{ints, to_z-of_z}
-use Rattle.std.specs.Int.{int_max}
 use Rattle.duality.specs.Lists.{places}
-use Rattle.duality.proofs.Sizes.{small_add, small_sub}
-use Rattle.job.specs.Rows.{excess}
+use Rattle.duality.proofs.Sizes.{small_add}
 
 abbrev pub back : ℤ → ℤ
 back z = to_z w64 (of_z w64 z)
@@ -45,17 +43,3 @@ module _ (s x y : ℤ) (fs : SFits w64 s) (fx : SFits w64 x) (fy : SFits w64 y) 
       let fp : SFits w64 (x *ℤ y) = fits _ (x *ℤ y) hp (omega arith) in
       let ft : SFits w64 (s +ℤ x *ℤ y) = sum_fits in
       simp to_z-of_z
-
--- the larger of two differences and 0
-pub excess_is : (low high s m r : ℤ) → nat_abs low ≤ 536870912 → nat_abs high ≤ 536870912 → nat_abs s ≤ 2 ^ 54 → SFits w64 m → SFits w64 r →
-    m ≡ int_max (back (back low -ℤ back s)) (back (back s -ℤ back high)) → r ≡ int_max (pos 0) (back m) → back r ≡ excess low high s
-unfolding excess
-excess_is low high s m r hl hh hs fm fr em er =
-    let fl : SFits w64 low = fits _ low hl (omega arith) in
-    let fh : SFits w64 high = fits _ high hh (omega arith) in
-    let fs : SFits w64 s = fits _ s hs (omega arith) in
-    let fu : SFits w64 (low -ℤ s) = fits _ (low -ℤ s) (small_sub 536870912 (2 ^ 54) low s hl hs) (omega arith) in
-    let fa : SFits w64 (s -ℤ high) = fits _ (s -ℤ high) (small_sub (2 ^ 54) 536870912 s high hs hh) (omega arith) in
-    let e : m ≡ int_max (low -ℤ s) (s -ℤ high) = simp to_z-of_z at em in
-    let d : r ≡ int_max (pos 0) m = simp to_z-of_z at er in
-    simp to_z-of_z (d ∙ ap (int_max (pos 0)) e)

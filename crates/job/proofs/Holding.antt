@@ -1,6 +1,7 @@
 -- Points inside their bounds, and points held there.
 use Rattle.std.proofs.Common.{◌≡◌, ℕ, ◌+◌, ◌<◌, ◌≤◌, Bool, true, false, eqb, ◌≢◌, List, map, length, set, ℤ, pos, ◌≤ℤ◌, Decides, sym, ap, ◌∙◌, ⊎_elim, arith}
 use Rattle.std.specs.List.{range_with_len}
+use Rattle.std.specs.Int.{int_max, int_min}
 use Rattle.std.proofs.lemmas.List.FromFn.{fill_by_all}
 use Rattle.std.proofs.lemmas.List.{get_or-set_same, get_or-set_other}
 use Rattle.std.proofs.lemmas.Int.{clamps}
@@ -54,9 +55,9 @@ module _ (j : Job) where
   held_inside : (low high x : ℤ) → low ≤ℤ high → (low ≤ℤ held low high x) × (held low high x ≤ℤ high)
   held_inside low high x h = (omega (arith, lin, clamps), omega (arith, lin, clamps))
 
-  pub held_is : (z : List ℤ) (k : ℕ) (low high x r : ℤ) → low ≡ (problem_of j).l k → high ≡ (problem_of j).u k → x ≡ places z k → r ≡ held low high x →
+  pub held_is : (z : List ℤ) (k : ℕ) (low high x r : ℤ) → low ≡ (problem_of j).l k → high ≡ (problem_of j).u k → x ≡ places z k → r ≡ int_max low (int_min x high) →
       r ≡ held ((problem_of j).l k) ((problem_of j).u k) (places z k)
-  held_is z k low high x r el eh ex e = cc
+  held_is z k low high x r el eh ex e = let q : int_max low (int_min x high) ≡ held low high x = omega (arith, lin, clamps) in cc
 
   -- each place below i is held, and the others stand
   abbrev pub HeldBelow : List ℤ → List ℤ → ℕ → Type 0
@@ -81,7 +82,7 @@ module _ (j : Job) where
       fill_by_all (λ k. held ((problem_of j).l k) ((problem_of j).u k) (places z k)) y j.ropes (pos 0) (ly ∙ lz) (λ k l. h.0 k (omega arith))
       ∙ sym (cond-true (eqb (length z) j.ropes) (map (λ k. held ((problem_of j).l k) ((problem_of j).u k) (places z k)) (range_with_len 0 j.ropes)) z (eq-eqb _ _ lz))
 
-  open_at : (k : ℕ) → k < j.ropes → (problem_of j).l k ≤ℤ (problem_of j).u k
+  pub open_at : (k : ℕ) → k < j.ropes → (problem_of j).l k ≤ℤ (problem_of j).u k
   open_at k l = ordered_at _ _ k j.wide (omega (arith, j.lefts.0, j.l.ok.0))
 
   pub held_in_bounds : (z y : List ℤ) (i : ℕ) → length z ≡ j.ropes → length y ≡ length z → j.ropes ≤ i → HeldBelow z y i → InBounds (problem_of j) y

@@ -1,5 +1,4 @@
 pub mod Bits
-pub mod Fitting
 pub mod Strides
 pub mod Reading
 pub mod Scoring

@@ -10,10 +10,11 @@ use Rattle.duality.proofs.Sums.{∑-more, ∑-cong, ∑-zero, ∑-pick}
 use Rattle.duality.proofs.Sizes.{sizes, small_add, small-∑}
 use Rattle.job.specs.Numbers.{problem_of}
 use Rattle.duality.specs.Tests.{many_within}
-use Rattle.job.specs.Rows.{excess, outside, RowMet, RowsMet, MetInside, meets}
+use Rattle.job.specs.Rows.{outside, RowMet, RowsMet, MetInside, meets}
+use Rattle.terms.specs.Ticks.{excess, Near}
 use Rattle.duality.specs.Tests.{between}
 use Rattle.job.specs.declared.numbers.Job.{Job}
-use Rattle.job.proofs.Bits.{back, fits, back_of}
+use Rattle.job.proofs.Bits.{back, fits, back_of, small_of}
 use Rattle.duality.proofs.Tests.{between_parts, between_from}
 use Rattle.job.proofs.Reading.{lo_small, hi_small, point_small, row_small}
 
@@ -77,6 +78,15 @@ module _ (j : Job) (z : List ℤ) (p : many_within j.ropes 32768 z ≡ true) whe
 
   pub row_back : (i : ℕ) (r : ℤ) → r ≡ row_at (problem_of j) (places z) i → back r ≡ row_at (problem_of j) (places z) i
   row_back i r e = back_of (2 ^ 39) r _ e (row_at_small i) (omega arith)
+
+  -- so near that a row's ticks are exact
+  pub row_near : (i : ℕ) (low high s : ℤ) → low ≡ (problem_of j).lo i → high ≡ (problem_of j).hi i → s ≡ row_at (problem_of j) (places z) i → Near low high s
+  row_near i low high s el eh es =
+      record {
+        low_near = small_of 536870912 _ _ el (lo_small j i);
+        high_near = small_of 536870912 _ _ eh (hi_small j i);
+        sum_near = small_of (2 ^ 54) _ _ es (omega (arith, row_at_small i));
+      }
 
   part_small : (i : ℕ) → nat_abs (outside_part j z i) ≤ 2 ^ 40
   part_small i = omega (arith, excess_small ((problem_of j).lo i) ((problem_of j).hi i) (row_at (problem_of j) (places z) i) 536870912 (2 ^ 39) (lo_small j i) (hi_small j i) (row_at_small i))

@@ -13,7 +13,7 @@ use Rattle.job.specs.Points.{gradient}
 use Rattle.duality.specs.Tests.{many_within, answer}
 use Rattle.job.specs.Strides.{strided, Reads}
 use Rattle.job.specs.declared.numbers.Job.{Job}
-use Rattle.job.proofs.Bits.{back, read_back}
+use Rattle.job.proofs.Bits.{back, back_of, read_back}
 use Rattle.duality.proofs.Tests.{within_at, all_from}
 
 -- a place of row i lies within a table of n rows and m columns
@@ -54,6 +54,10 @@ module _ (j : Job) where
 
   pub lo_read : (i : ℕ) (x : ℤ) → x ≡ get_or (vec_items j.lo) i x → i < j.rows → back x ≡ (problem_of j).lo i
   lo_read i x e l = read_back 536870912 (vec_items j.lo) i (vec_len j.lo) x e (omega (arith, j.floors.0)) j.lo.ok.0 (lo_small i) (lit< tt)
+
+  -- and as a loop over the limits reads them
+  pub lo_at : (i : ℕ) (xs : List ℤ) → xs ≡ vec_items j.lo → back (places xs i) ≡ (problem_of j).lo i
+  lo_at i xs e = back_of 536870912 (places xs i) (places (vec_items j.lo) i) (ap (λ (ys : List ℤ). places ys i) e) (lo_small i) (lit< tt)
 
   pub hi_read : (i : ℕ) (x : ℤ) → x ≡ get_or (vec_items j.hi) i x → i < j.rows → back x ≡ (problem_of j).hi i
   hi_read i x e l = read_back 536870912 (vec_items j.hi) i (vec_len j.hi) x e (omega (arith, j.ceilings.0)) j.hi.ok.0 (hi_small i) (lit< tt)

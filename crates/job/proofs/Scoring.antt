@@ -1,6 +1,5 @@
 -- The cost and the gradient, as loops and sums of small numbers give them.
-use Rattle.std.proofs.Common.{◌≡◌, ℕ, ◌+◌, ◌*◌, ◌^◌, ◌≤◌, true, List, length, ℤ, pos, ◌+ℤ◌, ◌*ℤ◌, nat_abs, vec_items, sym, ap, ◌∙◌, le_refl, mul-le-mul, arith, lit<, lit≤, w64, SFits}
-use Rattle.std.proofs.lemmas.Int.{to_z-of_z}
+use Rattle.std.proofs.Common.{◌≡◌, ℕ, ◌+◌, ◌*◌, ◌^◌, ◌<◌, ◌≤◌, true, List, length, ℤ, pos, ◌+ℤ◌, ◌*ℤ◌, nat_abs, vec_items, sym, ap, ◌∙◌, le_refl, mul-le-mul, arith, lit<, lit≤, w64, SFits}
 use Rattle.duality.specs.Lists.{places}
 use Rattle.duality.specs.Sums.{Vector, ∑, dot, row, column}
 use Rattle.duality.specs.Problem.{cost}
@@ -12,7 +11,7 @@ use Rattle.job.specs.Points.{gradient}
 use Rattle.duality.specs.Tests.{many_within}
 use Rattle.job.specs.Strides.{strided}
 use Rattle.job.specs.declared.numbers.Job.{Job}
-use Rattle.job.proofs.Bits.{back, back_is, back_of}
+use Rattle.job.proofs.Bits.{back, fits, back_is, back_of, small_of}
 use Rattle.job.proofs.Reading.{along_is, across_is, c_small, point_small, along_small, across_small, gradient_small}
 
 -- rope i's part of the cost
@@ -64,24 +63,34 @@ module _ (j : Job) (z : List ℤ) (p : many_within j.ropes 32768 z ≡ true) whe
   part_small : (i : ℕ) → nat_abs (cost_part j z i) ≤ 2 ^ 55
   part_small i = small_mul 32768 (2 ^ 40) (places z i) (row j.ropes (problem_of j).G (places z) i +ℤ pos 2 *ℤ (problem_of j).c i) (small i) (slope_small i)
 
-  pub product_small : (i : ℕ) (s : ℤ) → s ≡ row j.ropes (problem_of j).G (places z) i +ℤ pos 2 *ℤ (problem_of j).c i → nat_abs (back (places z i) *ℤ s) ≤ 2 ^ 61
-  product_small i s e = rw (place_back i, e) (omega (arith, part_small i))
+  product_is : (i : ℕ) (s : ℤ) → s ≡ row j.ropes (problem_of j).G (places z) i +ℤ pos 2 *ℤ (problem_of j).c i → back (places z i) *ℤ s ≡ cost_part j z i
+  product_is i s e = let b = place_back i in cc
 
-  pub total_small : (i : ℕ) (t : ℤ) → i ≤ j.ropes → t ≡ ∑ i (cost_part j z) → nat_abs t ≤ 2 ^ 61
-  total_small i t l e =
-      rw e (omega (
-        arith,
-        small-∑ i (2 ^ 55) (cost_part j z) (λ k _. part_small k),
-        mul-le-mul {n₁ = i} {m₁ = 2 ^ 55} {n₂ = 16} {m₂ = 2 ^ 55} (omega (arith, j.some.1)) (le_refl (2 ^ 55)),
-      ))
+  pub product_fits : (i : ℕ) (s : ℤ) → s ≡ row j.ropes (problem_of j).G (places z) i +ℤ pos 2 *ℤ (problem_of j).c i → SFits w64 (back (places z i) *ℤ s)
+  product_fits i s e = fits (2 ^ 55) _ (small_of (2 ^ 55) _ _ (product_is i s e) (part_small i)) (lit< tt)
 
-  pub cost_more : (i : ℕ) (t s r : ℤ) → SFits w64 r → t ≡ ∑ i (cost_part j z) → s ≡ row j.ropes (problem_of j).G (places z) i +ℤ pos 2 *ℤ (problem_of j).c i →
-      r ≡ t +ℤ back (places z i) *ℤ s → back r ≡ ∑ (i + 1) (cost_part j z)
-  cost_more i t s r f et es er =
-      let b : back (places z i) ≡ places z i = place_back i in
-      let m : ∑ (i + 1) (cost_part j z) ≡ ∑ i (cost_part j z) +ℤ cost_part j z i = ∑-more i (cost_part j z) in
-      let d : r ≡ ∑ (i + 1) (cost_part j z) = cc in
-      to_z-of_z w64 r f ∙ d
+  -- the sum t so far, with rope i's part
+  module _ (i : ℕ) (t s : ℤ) (l : i < j.ropes) (et : t ≡ ∑ i (cost_part j z))
+      (es : s ≡ row j.ropes (problem_of j).G (places z) i +ℤ pos 2 *ℤ (problem_of j).c i) where
+    next : t +ℤ back (back (places z i) *ℤ s) ≡ ∑ (i + 1) (cost_part j z)
+    next =
+        let b : back (back (places z i) *ℤ s) ≡ cost_part j z i = back_of (2 ^ 55) _ _ (product_is i s es) (part_small i) (lit< tt) in
+        let m : ∑ (i + 1) (cost_part j z) ≡ ∑ i (cost_part j z) +ℤ cost_part j z i = ∑-more i (cost_part j z) in
+        cc
+
+    next_small : nat_abs (∑ (i + 1) (cost_part j z)) ≤ 2 ^ 60
+    next_small =
+        omega (
+          arith,
+          small-∑ (i + 1) (2 ^ 55) (cost_part j z) (λ k _. part_small k),
+          mul-le-mul {n₁ = i + 1} {m₁ = 2 ^ 55} {n₂ = 16} {m₂ = 2 ^ 55} (omega (arith, j.some.1)) (le_refl (2 ^ 55)),
+        )
+
+    pub total_fits : SFits w64 (t +ℤ back (back (places z i) *ℤ s))
+    total_fits = fits (2 ^ 60) _ (small_of (2 ^ 60) _ _ next next_small) (lit< tt)
+
+    pub cost_more : back (t +ℤ back (back (places z i) *ℤ s)) ≡ ∑ (i + 1) (cost_part j z)
+    cost_more = back_of (2 ^ 60) _ _ next next_small (lit< tt)
 
   pub cost_all : (i : ℕ) (t : ℤ) → i ≡ j.ropes → t ≡ ∑ i (cost_part j z) → t ≡ cost (problem_of j) (places z)
   cost_all i t e et = et ∙ ap (λ (n : ℕ). ∑ n (cost_part j z)) e ∙ sym (cost_rows (problem_of j) (places z))

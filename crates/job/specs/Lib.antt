@@ -3,4 +3,3 @@ pub mod Strides
 pub mod Points
 pub mod Rows
 pub mod ProblemBounds
-pub mod Bounds

@@ -1,8 +1,9 @@
 -- The numbers of a job, when they fit, and the problem that they state.
-use Rattle.std.specs.Prelude.{ℕ, ◌*◌, Bool, cond, ◌&&◌, List, length, ℤ, Some, None, vec_items, Option, ◌==◌, nat_le, nat_lt}
+use Rattle.std.specs.Prelude.{ℕ, ◌*◌, Bool, cond, ◌&&◌, List, length, ℤ, Some, None, vec_items, Option, ◌==◌}
 use Rattle.duality.specs.Lists.{places, by_rows}
 use Rattle.duality.specs.Problem.{Problem}
-use Rattle.duality.specs.Tests.{all_within, in_order}
+use Rattle.duality.specs.Tests.{all_within}
+use Rattle.terms.specs.Numbers.{sizes, limited, Numbers as Terms}
 use Rattle.job.specs.declared.numbers.Job.{Job}
 
 pub record Numbers : Type 0 where
@@ -34,23 +35,23 @@ numbers_of j =
       u = vec_items j.u;
     }
 
--- lengths that sizes within 1 to 16 ropes and 0 to 32 rows ask for
-abbrev pub sizes : (ropes rows g a hi l u : ℕ) → Bool
-sizes ropes rows g a hi l u =
-    nat_lt 0 ropes && nat_le ropes 16 && nat_le rows 32 && g == ropes * ropes && a == ropes * rows && hi == rows && l == ropes && u == ropes
+-- matrices as long as so many ropes and rows ask for, with numbers within their limit
+abbrev pub matrices : (ropes rows : ℕ) → (g a : List ℤ) → Bool
+matrices ropes rows g a = length g == ropes * ropes && length a == ropes * rows && all_within 1048576 g && all_within 1048576 a
 
-abbrev pub sized : Numbers → Bool
-sized x = sizes x.ropes x.rows (length x.g) (length x.a) (length x.hi) (length x.l) (length x.u)
-
--- numbers within their limits, and no lower one above its upper one
-abbrev pub limited : (g c a lo hi l u : List ℤ) → Bool
-limited g c a lo hi l u =
-    all_within 1048576 g && all_within 268435456 c && all_within 1048576 a && all_within 536870912 lo && all_within 536870912 hi
-    && all_within 32768 l && all_within 32768 u && in_order lo hi && in_order l u
+-- the numbers beside the matrices fit, as terms
+abbrev pub terms_fit : Numbers → Bool
+terms_fit x = sizes x.ropes (length x.l) (length x.u) x.rows (length x.hi) && limited x.c x.l x.u x.lo x.hi
 
 -- numbers that fit, or nothing
 abbrev pub fitting : Numbers → Option Numbers
-fitting x = cond (sized x && limited x.g x.c x.a x.lo x.hi x.l x.u) (Some x) None
+fitting x = cond (terms_fit x && matrices x.ropes x.rows x.g x.a) (Some x) None
+
+-- terms with two matrices, where these fit
+abbrev pub with_matrices : (g a : List ℤ) → Terms → Option Numbers
+with_matrices g a t =
+    cond (matrices t.ropes t.rows g a)
+    (Some (record { ropes = t.ropes; rows = t.rows; g = g; c = t.c; a = a; lo = t.lo; hi = t.hi; l = t.l; u = t.u })) None
 
 -- a_ij stands rope by rope
 abbrev pub problem : Numbers → Problem

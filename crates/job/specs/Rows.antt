@@ -1,15 +1,11 @@
 -- How far a point lies outside the rows, and which row it breaks.
-use Rattle.std.specs.Prelude.{◌≡◌, ℕ, ◌<◌, Bool, ℤ, pos, ◌-ℤ◌, ◌≤ℤ◌, Some, None, Option}
-use Rattle.std.specs.Int.{int_max}
+use Rattle.std.specs.Prelude.{◌≡◌, ℕ, ◌<◌, Bool, ℤ, pos, ◌≤ℤ◌, Ok, Err, Result, Some, None, Option}
 use Rattle.duality.specs.Sums.{Vector, ∑}
 use Rattle.duality.specs.Problem.{Problem, row_at}
 use Rattle.duality.specs.Tests.{first_not, between}
-use Rattle.job.specs.declared.verdict.Verdict.{Verdict}
-use Rattle.job.specs.declared.verdict.Verdict.TheVariants.{Met, Broken, NoPoint}
-
--- how many ticks s lies below low or above high
-unfoldable pub excess : ℤ → ℤ → ℤ → ℤ
-excess low high s = int_max (pos 0) (int_max (low -ℤ s) (s -ℤ high))
+use Rattle.terms.specs.Ticks.{excess}
+use Rattle.terms.specs.declared.unmet.Unmet.{Unmet}
+use Rattle.terms.specs.declared.unmet.Unmet.TheVariants.{At, NoPoint}
 
 -- the ticks outside all rows, summed
 unfoldable pub outside : Problem → Vector → ℤ
@@ -28,16 +24,16 @@ MetInside P z o = (o ≡ pos 0 → RowsMet P z) × (RowsMet P z → o ≡ pos 0)
 abbrev pub meets : Problem → Vector → ℕ → Bool
 meets P z i = between (P.lo i) (P.hi i) (row_at P z i)
 
-abbrev pub verdict : Option ℕ → Verdict
-verdict None = Met
-verdict (Some i) = Broken i
+abbrev pub verdict : Option ℕ → Result (Unit {0}) Unmet
+verdict None = Ok tt
+verdict (Some i) = Err (At i)
 
 -- the first row that z breaks
-abbrev pub judged : Problem → Vector → Verdict
+abbrev pub judged : Problem → Vector → Result (Unit {0}) Unmet
 judged P z = verdict (first_not (meets P z) P.rows)
 
--- Law: a verdict that names a row names the first one that is not met.
-abbrev pub Judges : Problem → Vector → Verdict → Type 0
-Judges P z Met = RowsMet P z
-Judges P z (Broken i) = (i < P.rows) × (RowMet P z i → ⊥) × ((k : ℕ) → k < i → RowMet P z k)
-Judges P z NoPoint = Unit {0}
+-- Law: an answer that names a row names the first one that is not met.
+abbrev pub Judges : Problem → Vector → Result (Unit {0}) Unmet → Type 0
+Judges P z (Ok _) = RowsMet P z
+Judges P z (Err (At i)) = (i < P.rows) × (RowMet P z i → ⊥) × ((k : ℕ) → k < i → RowMet P z k)
+Judges P z (Err NoPoint) = Unit {0}

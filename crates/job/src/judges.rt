@@ -4,33 +4,25 @@ ghost use Rattle.duality.specs.Lists.{places};
 ghost use Rattle.job.specs.Numbers.{problem_of};
 ghost use Rattle.duality.specs.Tests.{many_within};
 ghost use Rattle.job.specs.Rows.{judged, Judges};
-ghost use Rattle.duality.specs.Tests.{between as between_of};
 
-use crate::checks::{ROUNDED_LIMIT, is_point};
 use crate::numbers::Job;
-use crate::verdict::Verdict;
-
-pub(crate) fn between(low: i64, high: i64, x: i64) -> bool
-    ensures { result ≡ between_of low high x }
-{
-    low <= x && x <= high
-}
+use terms::{ROUNDED_LIMIT, Unmet, between, many_within};
 
 impl Job {
-    /// The first row that z breaks, if any; it must be a list of as many numbers as there are ropes, within ±1,073,741,824.
-    pub fn judge(&self, z: &[i64]) -> Verdict
+    /// Whether z meets every row, or else the first that it breaks; it must be a list of as many numbers as there are ropes, within ±1,073,741,824.
+    pub fn judge(&self, z: &[i64]) -> Result<(), Unmet>
         ensures value { result ≡ cond (many_within self.now.ropes 1073741824 z.now)
-            (judged (problem_of self.now) (places z.now)) Verdict.NoPoint }
+            (judged (problem_of self.now) (places z.now)) (Err Unmet.NoPoint) }
         ensures law { Judges (problem_of self.now) (places z.now) result }
     {
-        if !is_point(self.ropes, ROUNDED_LIMIT, z) {
-            return Verdict::NoPoint;
+        if !many_within(self.ropes, ROUNDED_LIMIT, z) {
+            return Err(Unmet::NoPoint);
         }
-        for i in 0..self.rows {
-            if !between(self.lo[i], self.hi[i], self.row_at(i, z)) {
-                return Verdict::Broken(i);
+        for (i, lo) in self.lo.iter().enumerate() {
+            if !between(*lo, self.hi[i], self.row_at(i, z)) {
+                return Err(Unmet::At(i));
             }
         }
-        Verdict::Met
+        Ok(())
     }
 }

@@ -5,13 +5,10 @@
 #![tactic(auto)]
 
 mod bounds;
-mod checks;
 mod judges;
 mod makes;
 mod numbers;
 mod scores;
 mod sums;
-mod verdict;
 
 pub use numbers::Job;
-pub use verdict::Verdict;

@@ -1,38 +1,21 @@
 //! A job is made of lists that fit.
-ghost use Rattle.std.specs.Prelude.{◌≡◌, length};
+ghost use Rattle.std.specs.Prelude.{◌≡◌, ◌≤◌};
 ghost use Rattle.std.specs.Option.{option_map};
-ghost use Rattle.job.specs.Numbers.{sizes, limited, numbers, numbers_of, fitting};
+ghost use Rattle.terms.specs.Numbers.{numbers_of as terms_of};
+ghost use Rattle.job.specs.Numbers.{numbers, numbers_of, fitting, matrices, with_matrices};
 
-use crate::checks::{PRICE_LIMIT, PULL_LIMIT, ROW_LIMIT, TABLE_LIMIT, all_within, in_order};
 use crate::numbers::Job;
+use terms::{PLACE_LIMIT, Terms, all_within};
 
-fn sizes_fit(ropes: usize, rows: usize, g: usize, a: usize, hi: usize, l: usize, u: usize) -> bool
-    ensures { result ≡ sizes ropes rows g a hi l u }
+fn matrices_fit(ropes: usize, rows: usize, g: &[i64], a: &[i64]) -> bool
+    requires ropes { ropes ≤ 16 }
+    requires rows { rows ≤ 32 }
+    ensures { result ≡ matrices ropes rows g.now a.now }
 {
-    0 < ropes
-        && ropes <= 16
-        && rows <= 32
-        && g == ropes * ropes
-        && a == ropes * rows
-        && hi == rows
-        && l == ropes
-        && u == ropes
-}
-
-fn limits_fit(g: &[i64], c: &[i64], a: &[i64], lo: &[i64], hi: &[i64], l: &[i64], u: &[i64]) -> bool
-    requires rows { length lo.now ≡ length hi.now }
-    requires ropes { length l.now ≡ length u.now }
-    ensures { result ≡ limited g.now c.now a.now lo.now hi.now l.now u.now }
-{
-    all_within(TABLE_LIMIT, g)
-        && all_within(PRICE_LIMIT, c)
-        && all_within(TABLE_LIMIT, a)
-        && all_within(ROW_LIMIT, lo)
-        && all_within(ROW_LIMIT, hi)
-        && all_within(PULL_LIMIT, l)
-        && all_within(PULL_LIMIT, u)
-        && in_order(lo, hi)
-        && in_order(l, u)
+    g.len() == ropes * ropes
+        && a.len() == ropes * rows
+        && all_within(PLACE_LIMIT, g)
+        && all_within(PLACE_LIMIT, a)
 }
 
 impl Job {
@@ -50,14 +33,22 @@ impl Job {
     ) -> Option<Job>
         ensures { option_map numbers_of result ≡ fitting (numbers g.items c.items a.items lo.items hi.items l.items u.items) }
     {
-        let ropes = c.len();
-        let rows = lo.len();
-        if !sizes_fit(ropes, rows, g.len(), a.len(), hi.len(), l.len(), u.len()) {
+        let terms = Terms::new(c, l, u, lo, hi)?;
+        Job::of(g, a, terms)
+    }
+
+    /// A job of these matrices and terms, or nothing where a matrix has another length than the terms ask for, or a number beyond its limit.
+    ///
+    /// `g` goes row by row and `a` rope by rope.
+    pub fn of(g: Vec<i64>, a: Vec<i64>, terms: Terms) -> Option<Job>
+        ensures { option_map numbers_of result ≡ with_matrices g.items a.items (terms_of terms) }
+    {
+        let ropes = terms.c.len();
+        let rows = terms.lo.len();
+        if !matrices_fit(ropes, rows, &g, &a) {
             return None;
         }
-        if !limits_fit(&g, &c, &a, &lo, &hi, &l, &u) {
-            return None;
-        }
+        let Terms { c, l, u, lo, hi } = terms;
         Some(Job {
             ropes,
             rows,

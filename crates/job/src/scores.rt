@@ -5,24 +5,11 @@ ghost use Rattle.duality.specs.Problem.{row_at, cost as cost_of};
 ghost use Rattle.job.specs.Numbers.{problem_of};
 ghost use Rattle.job.specs.Points.{gradient as gradient_of, CostChange};
 ghost use Rattle.duality.specs.Tests.{many_within, answer};
-ghost use Rattle.job.specs.Rows.{excess as excess_of, outside as outside_of, MetInside};
+ghost use Rattle.job.specs.Rows.{outside as outside_of, MetInside};
 
-use crate::checks::{PULL_LIMIT, ROUNDED_LIMIT, is_point};
 use crate::numbers::Job;
-use crate::sums::{plus_product, strided_dot};
-
-/// How many ticks s lies below low or above high.
-pub(crate) fn excess(low: i64, high: i64, s: i64) -> i64
-    requires low { unsigned_abs low ≤ 536870912 }
-    requires high { unsigned_abs high ≤ 536870912 }
-    requires s { unsigned_abs s ≤ 2 ^ 54 }
-    ensures { result ≡ excess_of low high s }
-{
-    let under = low - s;
-    let above = s - high;
-    let most = under.max(above);
-    0i64.max(most)
-}
+use crate::sums::strided_dot;
+use terms::{PULL_LIMIT, ROUNDED_LIMIT, excess, many_within};
 
 /// A row's part of the gradient, or of the cost.
 pub(crate) fn with_price(sum: i64, price: i64) -> i64
@@ -47,7 +34,7 @@ impl Job {
         ensures { result ≡ answer (nat_lt i self.now.rows && many_within self.now.ropes 1073741824 z.now)
             (row_at (problem_of self.now) (places z.now) i) }
     {
-        if i < self.rows && is_point(self.ropes, ROUNDED_LIMIT, z) {
+        if i < self.rows && many_within(self.ropes, ROUNDED_LIMIT, z) {
             Some(self.row_at(i, z))
         } else {
             None
@@ -62,7 +49,7 @@ impl Job {
             (gradient_of (problem_of self.now) (places z.now) j) }
         ensures law { IfSome result (λ g. CostChange (problem_of self.now) (places z.now) j g) }
     {
-        if j < self.ropes && is_point(self.ropes, PULL_LIMIT, z) {
+        if j < self.ropes && many_within(self.ropes, PULL_LIMIT, z) {
             let along = strided_dot(&self.g, j * self.ropes, 1, z);
             let across = strided_dot(&self.g, j, self.ropes, z);
             Some(with_price(along + across, self.c[j]))
@@ -75,13 +62,14 @@ impl Job {
     pub fn cost(&self, z: &[i64]) -> Option<i64>
         ensures { result ≡ answer (many_within self.now.ropes 32768 z.now) (cost_of (problem_of self.now) (places z.now)) }
     {
-        if !is_point(self.ropes, PULL_LIMIT, z) {
+        if !many_within(self.ropes, PULL_LIMIT, z) {
             return None;
         }
         let mut total = 0i64;
-        for i in 0..self.ropes {
+        for (i, x) in z.iter().enumerate() {
             let row = strided_dot(&self.g, i * self.ropes, 1, z);
-            total = plus_product(total, z[i], with_price(row, self.c[i]));
+            let slope = with_price(row, self.c[i]);
+            total += *x * slope;
         }
         Some(total)
     }
@@ -91,12 +79,12 @@ impl Job {
         ensures value { result ≡ answer (many_within self.now.ropes 32768 z.now) (outside_of (problem_of self.now) (places z.now)) }
         ensures met { IfSome result (λ o. MetInside (problem_of self.now) (places z.now) o) }
     {
-        if !is_point(self.ropes, PULL_LIMIT, z) {
+        if !many_within(self.ropes, PULL_LIMIT, z) {
             return None;
         }
         let mut total = 0i64;
-        for i in 0..self.rows {
-            total += excess(self.lo[i], self.hi[i], self.row_at(i, z));
+        for (i, lo) in self.lo.iter().enumerate() {
+            total += excess(*lo, self.hi[i], self.row_at(i, z));
         }
         Some(total)
     }

@@ -1,12 +1,14 @@
 -- What holds of each of a list, of its parts, and of the moves that are tried.
-use Rattle.std.proofs.Common.{◌≡◌, ℕ, zero, suc, ◌+◌, ◌<◌, ◌≤◌, Bool, true, false, List, [], ◌∷◌, ◌++◌, length, ℤ, Some, None, sym, refl, ap, ◌∙◌, subst, ⊎_elim, arith}
+use Rattle.std.proofs.Common.{◌≡◌, ℕ, zero, suc, ◌+◌, ◌<◌, ◌≤◌, Bool, true, false, List, [], ◌∷◌, ◌++◌, length, ℤ, pos, negsuc, neg_ℤ, Some, None, sym, ap, ◌∙◌, subst, ⊎_elim, arith}
 use Rattle.std.specs.List.{range_with_len, flat_map}
 use Rattle.std.proofs.lemmas.Bool.{cases_eq, cases_Bool}
 use Rattle.duality.specs.Lists.{places}
+use Rattle.duality.specs.Sums.{absℤ}
+use Rattle.duality.proofs.Sizes.{nat_abs_neg}
 use Rattle.walk.specs.Moves.{sizes, both_ways, of_rope, candidates}
 use Rattle.walk.specs.ProblemWalks.{first}
 use Rattle.walk.specs.declared.moves.Move.{Move}
-use Rattle.walk.proofs.Sizes.{sizes_long}
+use Rattle.walk.proofs.Sizes.{sizes_long, sizes_positive}
 use Rattle.walk.proofs.Firsts.{first_yes, first_no}
 
 abbrev pub Each : {X : Type 0} → (X → Type 0) → List X → Type 0
@@ -55,17 +57,17 @@ each_from Q (x ∷ xs) h = (h 0 (omega arith), each_from Q xs (λ i l. h (suc i)
 
 -- a move of the list is one of n ropes by a size of the table
 abbrev pub Listed : ℕ → Move → Type 0
-Listed n m = (m.rope < n) × ((i : ℕ) × (i < 15) × (m.size ≡ places sizes i))
+Listed n m = (m.rope < n) × ((i : ℕ) × (i < 15) × (absℤ m.by ≡ places sizes i))
 
 abbrev Known : ℤ → Type 0
-Known s = (i : ℕ) × (i < 15) × (s ≡ places sizes i)
+Known s = (i : ℕ) × (i < 15) × (absℤ s ≡ places sizes i)
 
 pub candidates_listed : (n : ℕ) → Each (Listed n) (candidates n)
 unfolding candidates of_rope
 candidates_listed n = each_joined (Listed n) (λ k. k < n) of_rope rope (range_with_len 0 n) (each_counting (λ k. k < n) 0 n (λ k l. omega arith))
   where
     rope : (k : ℕ) → k < n → Each (Listed n) (of_rope k)
-    rope k l = each_joined (Listed n) Known (both_ways k) (λ s h. ((l, h), ((l, h), tt))) sizes (each_from Known sizes (λ i m. (i, omega (arith, sizes_long), refl)))
+    rope k l = each_joined (Listed n) Known (both_ways k) (λ s h. ((l, h), ((l, (h.0, h.1, ap pos (nat_abs_neg s) ∙ h.2)), tt))) sizes (each_from Known sizes (λ i m. (i, omega (arith, sizes_long), sizes_positive i)))
 
 -- and the list has each such move
 pub each_listed : (P : Move → Type 0) (n : ℕ) (m : Move) → Listed n m → Each P (candidates n) → P m
@@ -73,11 +75,11 @@ unfolding candidates of_rope
 each_listed P n m h e =
     let mine = each_rope (λ k. Each P (of_rope k)) 0 n m.rope (omega arith) (omega (arith, h.0)) (each_parts P of_rope (range_with_len 0 n) e) in
     let here = each_place (λ s. Each P (both_ways m.rope s)) sizes h.1.0 (omega (arith, sizes_long, h.1.1)) (each_parts P (both_ways m.rope) sizes mine) in
-    subst (λ (s : ℤ). P (record { rope = m.rope; size = s; up = m.up })) (sym h.1.2) (way (places sizes h.1.0) m.up here)
+    way (places sizes h.1.0) m.by h.1.2 here
   where
-    way : (s : ℤ) (u : Bool) → Each P (both_ways m.rope s) → P (record { rope = m.rope; size = s; up = u })
-    way s true w = w.0
-    way s false w = w.1.0
+    way : (s d : ℤ) → absℤ d ≡ s → Each P (both_ways m.rope s) → P (record { rope = m.rope; by = d })
+    way s (pos d) e w = subst (λ (v : ℤ). P (record { rope = m.rope; by = v })) (sym e) w.0
+    way s (negsuc d) e w = subst (λ (v : ℤ). P (record { rope = m.rope; by = neg_ℤ v })) (sym e) w.1.0
 
 -- the first that passes passes, and where none is found each fails
 pub first_holds : (t : Move → Bool) (P : Move → Type 0) (xs : List Move) (m : Move) → Each P xs → first t xs ≡ Some m → (t m ≡ true) × P m

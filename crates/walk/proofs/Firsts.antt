@@ -43,7 +43,7 @@ unfolding of_rope
 left_start k = refl
 
 pub left_more : (k i : ℕ) → i < 15 →
-    left_of k i ≡ record { rope = k; size = places sizes i; up = true } ∷ record { rope = k; size = places sizes i; up = false } ∷ left_of k (i + 1)
+    left_of k i ≡ both_ways k (places sizes i) ++ left_of k (i + 1)
 left_more k i l = ap (flat_map (both_ways k)) (drop_more sizes i (pos 0) (omega (arith, sizes_long)))
 
 pub left_none : (k i : ℕ) → 15 ≤ i → left_of k i ≡ []

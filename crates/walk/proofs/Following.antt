@@ -1,5 +1,5 @@
 -- The running sums follow a move.
-use Rattle.std.proofs.Common.{◌≡◌, ℕ, ◌^◌, ◌<◌, ◌≤◌, true, eqb, List, length, set, ℤ, pos, ◌+ℤ◌, ◌*ℤ◌, nat_abs, vec_items, vec_len, sym, refl, ap, ◌∙◌, subst, ⊎_elim, arith, w64, SFits}
+use Rattle.std.proofs.Common.{◌≡◌, ℕ, ◌^◌, ◌<◌, ◌≤◌, true, eqb, List, length, set, ℤ, pos, ◌+ℤ◌, ◌*ℤ◌, nat_abs, vec_items, vec_len, sym, refl, ap, ◌∙◌, ⊎_elim, arith, w64, SFits}
 use Rattle.std.specs.Vec.{with_items}
 use Rattle.std.proofs.lemmas.List.{with_items_is, get_or_past}
 use Rattle.std.proofs.lemmas.Int.{ints, to_z-of_z}
@@ -13,7 +13,8 @@ use Rattle.job.specs.ProblemBounds.{InBounds}
 use Rattle.job.specs.Numbers.{problem_of}
 use Rattle.job.specs.Points.{gradient}
 use Rattle.duality.specs.Tests.{many_within}
-use Rattle.job.specs.Rows.{excess, outside}
+use Rattle.terms.specs.Ticks.{excess}
+use Rattle.job.specs.Rows.{outside}
 use Rattle.duality.specs.Tests.{within, all_within}
 use Rattle.job.specs.declared.numbers.Job.{Job}
 use Rattle.job.proofs.Bits.{back}
@@ -104,31 +105,26 @@ module _ (j : Job) (z : List ℤ) (k : ℕ) (d : ℤ) (l : k < j.ropes) (long : 
         outside_is = h.outside_is ∙ outside_moved s t;
       }
 
--- what `shift` leaves: e is d as the calls take it
-pub shifted_is : (j : Job) (s : Room) (k : ℕ) (d e o : ℤ) (xs ys us vs : List ℤ) → SFits w64 o → e ≡ d →
-    xs ≡ vec_items s.sums → length xs ≡ vec_len s.sums → Raised xs ys (λ i. (problem_of j).A i k) e →
-    us ≡ vec_items s.slopes → length us ≡ vec_len s.slopes → Raised us vs (λ i. (problem_of j).G i k +ℤ (problem_of j).G k i) e →
-    o ≡ outside_after j s k e →
+-- what `shift` leaves
+pub shifted_is : (j : Job) (s : Room) (k : ℕ) (d o : ℤ) (xs ys us vs : List ℤ) → SFits w64 o →
+    xs ≡ vec_items s.sums → length xs ≡ vec_len s.sums → Raised xs ys (λ i. (problem_of j).A i k) d →
+    us ≡ vec_items s.slopes → length us ≡ vec_len s.slopes → Raised us vs (λ i. (problem_of j).G i k +ℤ (problem_of j).G k i) d →
+    o ≡ outside_after j s k d →
     Shifted j s (record { sums = with_items s.sums ys; slopes = with_items s.slopes vs; outside = back o }) k d
-shifted_is j s k d e o xs ys us vs fo ed ex lx rx eu lu ru eo =
+shifted_is j s k d o xs ys us vs fo ex lx rx eu lu ru eo =
     record {
       sums_long = refl;
       slopes_long = refl;
       sums_are = λ i l.
           ap (λ (zs : List ℤ). places zs i) (with_items_is s.sums ys (rx.long ∙ lx))
           ∙ rx.each i (omega (arith, lx))
-          ∙ ap (λ (zs : List ℤ). places zs i +ℤ (problem_of j).A i k *ℤ e) ex
-          ∙ ap (λ (t : ℤ). places (vec_items s.sums) i +ℤ (problem_of j).A i k *ℤ t) ed;
+          ∙ ap (λ (zs : List ℤ). places zs i +ℤ (problem_of j).A i k *ℤ d) ex;
       slopes_are = λ i l.
           ap (λ (zs : List ℤ). places zs i) (with_items_is s.slopes vs (ru.long ∙ lu))
           ∙ ru.each i (omega (arith, lu))
-          ∙ ap (λ (zs : List ℤ). places zs i +ℤ ((problem_of j).G i k +ℤ (problem_of j).G k i) *ℤ e) eu
-          ∙ ap (λ (t : ℤ). places (vec_items s.slopes) i +ℤ ((problem_of j).G i k +ℤ (problem_of j).G k i) *ℤ t) ed;
-      outside_is = to_z-of_z w64 o fo ∙ eo ∙ ap (outside_after j s k) ed;
+          ∙ ap (λ (zs : List ℤ). places zs i +ℤ ((problem_of j).G i k +ℤ (problem_of j).G k i) *ℤ d) eu;
+      outside_is = to_z-of_z w64 o fo ∙ eo;
     }
-
-pub shifted_by : (j : Job) (s s' : Room) (k : ℕ) (d e : ℤ) → d ≡ e → Shifted j s s' k d → Shifted j s s' k e
-shifted_by j s s' k d e eq h = subst (λ (v : ℤ). Shifted j s s' k v) eq h
 
 pub a_point : (j : Job) (z : List ℤ) → InBounds (problem_of j) z → many_within j.ropes 32768 z ≡ true
 a_point j z h =

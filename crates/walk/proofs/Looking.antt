@@ -18,7 +18,7 @@ use Rattle.walk.specs.declared.room.Room.{Room}
 
 -- the test as the program puts it together
 pub looks_are : (j : Job) (s : Room) (k : ℕ) (d e o slope curve a a' b b' : ℤ) (r : Bool) → e ≡ d → o ≡ s.outside →
-    slope ≡ places (vec_items s.slopes) k → curve ≡ (problem_of j).G k k → a ≡ outside_after j s k e → a' ≡ a → b ≡ gain_of slope curve e → b' ≡ b →
+    slope ≡ places (vec_items s.slopes) k → curve ≡ (problem_of j).G k k → a ≡ outside_after j s k d → a' ≡ a → b ≡ gain_of slope curve e → b' ≡ b →
     r ≡ lower o (pos 0) a' b' → r ≡ looks_lower j s k d
 unfolding looks_lower
 looks_are j s k d e o slope curve a a' b b' r ed eo es ec ea ea' eb eb' er = cc

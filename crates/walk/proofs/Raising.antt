@@ -1,11 +1,14 @@
 -- One turn of a loop that raises each number by d times its weight.
-use Rattle.std.proofs.Common.{◌≡◌, ℕ, ◌+◌, ◌^◌, ◌<◌, ◌≤◌, ◌≢◌, List, length, set, ℤ, pos, ◌+ℤ◌, ◌*ℤ◌, nat_abs, sym, ap, ◌∙◌, ⊎_elim, arith, lit<, w64, SFits}
+use Rattle.std.proofs.Common.{◌≡◌, ℕ, ◌+◌, ◌*◌, ◌^◌, ◌<◌, ◌≤◌, ◌≢◌, List, length, get_or, set, vec_items, ℤ, pos, ◌+ℤ◌, ◌*ℤ◌, nat_abs, ap, ◌∙◌, ⊎_elim, arith, lit<, w64, SFits}
 use Rattle.std.proofs.lemmas.List.{get_or-set_same, get_or-set_other}
 use Rattle.std.proofs.lemmas.Bool.{cases_lt}
 use Rattle.duality.specs.Lists.{places}
 use Rattle.duality.specs.Sums.{Vector}
 use Rattle.duality.proofs.Sizes.{small_add, small_mul}
-use Rattle.job.proofs.Bits.{back, fits, back_is, back_of}
+use Rattle.job.proofs.Bits.{back, fits, back_is, small_of, plus_product_fits, plus_product_is}
+use Rattle.job.proofs.Reading.{g_small, g_read}
+use Rattle.job.specs.Numbers.{problem_of}
+use Rattle.job.specs.declared.numbers.Job.{Job}
 use Rattle.walk.specs.Running.{Raised}
 
 -- the numbers below i are raised, and the others stand
@@ -29,28 +32,31 @@ module _ (x w d : ℤ) (hx : nat_abs x ≤ 2 ^ 41) (hw : nat_abs w ≤ 2097152) 
   weight_small : nat_abs (w *ℤ d) ≤ 2 ^ 35
   weight_small = small_mul 2097152 16384 w d hw hd
 
-  pub number_in : (y : ℤ) → y ≡ x → nat_abs (back y) ≤ 2 ^ 61
-  number_in y e = rw (e, back_is (2 ^ 41) x hx (lit< tt)) (omega (arith, hx))
+  pub raised_small : nat_abs (x +ℤ w *ℤ d) ≤ 2 ^ 42
+  raised_small = omega (arith, small_add (2 ^ 41) (2 ^ 35) x (w *ℤ d) hx weight_small)
 
-  pub product_in : (v : ℤ) → v ≡ w → nat_abs (v *ℤ back d) ≤ 2 ^ 61
-  product_in v e = rw (e, back_is 16384 d hd (lit< tt)) (omega (arith, weight_small))
+  pub product_fits : SFits w64 (back w *ℤ back d)
+  product_fits = rw (back_is 2097152 w hw (lit< tt), back_is 16384 d hd (lit< tt)) (fits (2 ^ 35) (w *ℤ d) weight_small (lit< tt))
 
-  pub raised_is : (v r : ℤ) → v ≡ w → r ≡ back x +ℤ v *ℤ back d → back r ≡ x +ℤ w *ℤ back d
-  raised_is v r ev er =
-      let bx = back_is (2 ^ 41) x hx (lit< tt) in
-      let bd = back_is 16384 d hd (lit< tt) in
-      let e : r ≡ x +ℤ w *ℤ d = cc in
-      back_of (2 ^ 41 + 2 ^ 35) r _ e (small_add (2 ^ 41) (2 ^ 35) x (w *ℤ d) hx weight_small) (lit< tt) ∙ ap (λ (t : ℤ). x +ℤ w *ℤ t) (sym bd)
+  pub raised_fits : SFits w64 (back x +ℤ back (back w *ℤ back d))
+  raised_fits = plus_product_fits x w d (fits (2 ^ 41) x hx (lit< tt)) (fits 2097152 w hw (lit< tt)) (fits 16384 d hd (lit< tt)) (omega (arith, hx)) (omega (arith, weight_small))
+
+  pub raised_is : back (back x +ℤ back (back w *ℤ back d)) ≡ x +ℤ w *ℤ d
+  raised_is = plus_product_is x w d (fits (2 ^ 41) x hx (lit< tt)) (fits 2097152 w hw (lit< tt)) (fits 16384 d hd (lit< tt)) (omega (arith, hx)) (omega (arith, weight_small))
 
 pub raised_all : (xs ys : List ℤ) (w : Vector) (d e : ℤ) (i : ℕ) → length ys ≡ length xs → length xs ≤ i → e ≡ d → RaisedBelow xs ys w e i → Raised xs ys w d
 raised_all xs ys w d e i long l ed h = record { long = long; each = λ k m. h.0 k (omega arith) ∙ ap (λ (t : ℤ). places xs k +ℤ w k *ℤ t) ed }
 
--- a weight that is a sum of two
-pub both_small : (g h : ℤ) → nat_abs g ≤ 1048576 → nat_abs h ≤ 1048576 → nat_abs (g +ℤ h) ≤ 2097152
-both_small g h hg hh = small_add 1048576 1048576 g h hg hh
+-- a weight of the gradient: what G has for a pair of ropes, both ways
+module _ (j : Job) (i k : ℕ) where
+  pub pair_small : nat_abs ((problem_of j).G i k +ℤ (problem_of j).G k i) ≤ 2097152
+  pair_small = small_add 1048576 1048576 ((problem_of j).G i k) ((problem_of j).G k i) (g_small j (i * j.ropes + k)) (g_small j (k * j.ropes + i))
 
-pub both_fit : (g h x y : ℤ) → nat_abs g ≤ 1048576 → nat_abs h ≤ 1048576 → x ≡ g → y ≡ h → SFits w64 (x +ℤ y)
-both_fit g h x y hg hh ex ey = fits 2097152 (x +ℤ y) (rw (ex, ey) (both_small g h hg hh)) (lit< tt)
+  -- as it is read
+  module _ (x y : ℤ) (ex : x ≡ get_or (vec_items j.g) (i * j.ropes + k) x) (ey : y ≡ get_or (vec_items j.g) (k * j.ropes + i) y) (li : i < j.ropes)
+      (lk : k < j.ropes) where
+    pub pair_is : back x +ℤ back y ≡ (problem_of j).G i k +ℤ (problem_of j).G k i
+    pair_is = let a = g_read j i k x ex li lk in let b = g_read j k i y ey lk li in cc
 
-pub both_is : (g h x y : ℤ) → nat_abs g ≤ 1048576 → nat_abs h ≤ 1048576 → x ≡ g → y ≡ h → back (x +ℤ y) ≡ g +ℤ h
-both_is g h x y hg hh ex ey = rw (ex, ey) (back_is 2097152 (g +ℤ h) (both_small g h hg hh) (lit< tt))
+    pub pair_fits : SFits w64 (back x +ℤ back y)
+    pair_fits = fits 2097152 (back x +ℤ back y) (small_of 2097152 (back x +ℤ back y) _ pair_is pair_small) (lit< tt)

@@ -11,7 +11,7 @@ use Rattle.job.specs.Rows.{outside}
 use Rattle.duality.proofs.Tests.{between_parts, between_from}
 use Rattle.walk.specs.ProblemLowering.{Below, Step, lower, below, allowed, lowers}
 use Rattle.walk.specs.ProblemLaws.{Descent}
-use Rattle.walk.specs.Moves.{step_of, after, candidates}
+use Rattle.walk.specs.Moves.{after, candidates}
 use Rattle.walk.specs.ProblemWalks.{first_move}
 use Rattle.walk.specs.declared.moves.Move.{Move}
 use Rattle.walk.proofs.Each.{Listed, candidates_listed, each_listed, first_holds, first_none}
@@ -54,7 +54,7 @@ module _ (P : Problem) (z : List ℤ) where
   unfolding lowers allowed below
   step_out m h e =
       let t = both_true (allowed P z m) (below P (places z) (places (after z m))) e in
-      let b = between_parts (P.l m.rope) (P.u m.rope) (places z m.rope +ℤ step_of m) t.0 in (
+      let b = between_parts (P.l m.rope) (P.u m.rope) (places z m.rope +ℤ m.by) t.0 in (
         record { rope_there = h.0; size_there = h.1; not_below = b.0; not_above = b.1 },
         lower_out (outside P (places z)) (cost P (places z)) (outside P (places (after z m))) (cost P (places (after z m))) t.1,
       )
@@ -63,7 +63,7 @@ module _ (P : Problem) (z : List ℤ) where
   unfolding lowers allowed below
   step_in m s l =
       ap (λ (b : Bool). cond b (below P (places z) (places (after z m))) false)
-      (between_from (P.l m.rope) (P.u m.rope) (places z m.rope +ℤ step_of m) s.not_below s.not_above)
+      (between_from (P.l m.rope) (P.u m.rope) (places z m.rope +ℤ m.by) s.not_below s.not_above)
       ∙ lower_in (outside P (places z)) (cost P (places z)) (outside P (places (after z m))) (cost P (places (after z m))) l
 
   -- what the search finds
@@ -74,7 +74,7 @@ module _ (P : Problem) (z : List ℤ) where
   pub found_descends : (m : Move) → first_move P z ≡ Some m → Step P z m × Below P (places z) (places (after z m))
   found_descends m e = let f = found_listed m e in step_out m f.1 f.0
 
-  pub found_small : (m : Move) → first_move P z ≡ Some m → nat_abs m.size ≤ 16384
+  pub found_small : (m : Move) → first_move P z ≡ Some m → nat_abs m.by ≤ 16384
   found_small m e = let f = (found_listed m e).1.1 in omega (arith, ap nat_abs f.2, sizes_small f.0)
 
   -- and where it finds none, no step lowers
@@ -89,17 +89,17 @@ module _ (P : Problem) (z : List ℤ) where
   pub inside_after : (m : Move) → InBounds P z → Step P z m → InBounds P (after z m)
   inside_after m h s =
       let lz : m.rope < length z = omega (arith, h.long, s.rope_there) in
-      let same : places (after z m) m.rope ≡ places z m.rope +ℤ step_of m = get_or-set_same z m.rope (places z m.rope +ℤ step_of m) (pos 0) lz in
+      let same : places (after z m) m.rope ≡ places z m.rope +ℤ m.by = get_or-set_same z m.rope (places z m.rope +ℤ m.by) (pos 0) lz in
       record {
-        long = length-set z m.rope (places z m.rope +ℤ step_of m) ∙ h.long;
+        long = length-set z m.rope (places z m.rope +ℤ m.by) ∙ h.long;
         not_below = λ k l.
             ⊎_elim
             (λ (e : k ≡ m.rope). rw (e, same) s.not_below)
-            (λ (ne : k ≡ m.rope → ⊥). rw (get_or-set_other z m.rope k (places z m.rope +ℤ step_of m) (pos 0) ne) (h.not_below k l))
+            (λ (ne : k ≡ m.rope → ⊥). rw (get_or-set_other z m.rope k (places z m.rope +ℤ m.by) (pos 0) ne) (h.not_below k l))
             (cases_eq k m.rope);
         not_above = λ k l.
             ⊎_elim
             (λ (e : k ≡ m.rope). rw (e, same) s.not_above)
-            (λ (ne : k ≡ m.rope → ⊥). rw (get_or-set_other z m.rope k (places z m.rope +ℤ step_of m) (pos 0) ne) (h.not_above k l))
+            (λ (ne : k ≡ m.rope → ⊥). rw (get_or-set_other z m.rope k (places z m.rope +ℤ m.by) (pos 0) ne) (h.not_above k l))
             (cases_eq k m.rope);
       }

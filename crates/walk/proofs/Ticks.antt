@@ -1,15 +1,16 @@
 -- One pass over the rows: the ticks outside once a rope has moved.
-use Rattle.std.proofs.Common.{◌≡◌, ℕ, ◌+◌, ◌*◌, ◌^◌, ◌<◌, ◌≤◌, get_or, ℤ, ◌+ℤ◌, ◌*ℤ◌, nat_abs, vec_items, vec_len, ap, ◌∙◌, le_refl, mul-le-mul, arith, lit<}
+use Rattle.std.proofs.Common.{◌≡◌, ℕ, ◌+◌, ◌*◌, ◌^◌, ◌<◌, ◌≤◌, get_or, ℤ, ◌+ℤ◌, ◌*ℤ◌, nat_abs, vec_items, vec_len, ap, ◌∙◌, le_refl, mul-le-mul, arith, lit<, w64, SFits}
 use Rattle.duality.specs.Lists.{places}
 use Rattle.duality.specs.Sums.{Vector, ∑}
 use Rattle.duality.proofs.Sums.{∑-more}
 use Rattle.duality.proofs.Sizes.{small_add, small_mul, small-∑}
 use Rattle.job.specs.Numbers.{problem_of}
-use Rattle.job.specs.Rows.{excess}
+use Rattle.terms.specs.Ticks.{excess, Near}
 use Rattle.job.specs.declared.numbers.Job.{Job}
-use Rattle.job.proofs.Bits.{back, back_is, back_of, read_back}
+use Rattle.job.proofs.Bits.{back, back_is, back_of, small_of, read_back}
 use Rattle.job.proofs.Outside.{excess_small}
 use Rattle.job.proofs.Reading.{a_small, lo_small, hi_small}
+use Rattle.walk.proofs.Raising.{product_fits, raised_fits, raised_is}
 use Rattle.walk.specs.Running.{Tame, outside_after}
 use Rattle.walk.specs.declared.room.Room.{Room}
 
@@ -18,33 +19,44 @@ abbrev pub ticks : Job → Room → ℕ → ℤ → Vector
 ticks j s k d i = excess ((problem_of j).lo i) ((problem_of j).hi i) (places (vec_items s.sums) i +ℤ (problem_of j).A i k *ℤ d)
 
 module _ (j : Job) (s : Room) (t : Tame j s) where
-  pub sum_read : (i : ℕ) (x : ℤ) → x ≡ get_or (vec_items s.sums) i x → i < j.rows → back x ≡ places (vec_items s.sums) i
-  sum_read i x e l = read_back (2 ^ 39) (vec_items s.sums) i (vec_len s.sums) x e (omega (arith, t.sums_long)) s.sums.ok.0 (t.sums_small i) (lit< tt)
-
   pub slope_read : (k : ℕ) (x : ℤ) → x ≡ get_or (vec_items s.slopes) k x → k < j.ropes → back x ≡ places (vec_items s.slopes) k
   slope_read k x e l = read_back (2 ^ 41) (vec_items s.slopes) k (vec_len s.slopes) x e (omega (arith, t.slopes_long)) s.slopes.ok.0 (t.slopes_small k) (lit< tt)
 
 module _ (j : Job) (s : Room) (k : ℕ) (d : ℤ) (t : Tame j s) (hd : nat_abs d ≤ 16384) where
-  weight_small : (i : ℕ) → nat_abs ((problem_of j).A i k *ℤ d) ≤ 2 ^ 34
-  weight_small i = small_mul 1048576 16384 ((problem_of j).A i k) d (a_small j (k * j.rows + i)) hd
-
   moved_small : (i : ℕ) → nat_abs (places (vec_items s.sums) i +ℤ (problem_of j).A i k *ℤ d) ≤ 2 ^ 40
-  moved_small i = omega (arith, small_add (2 ^ 39) (2 ^ 34) (places (vec_items s.sums) i) ((problem_of j).A i k *ℤ d) (t.sums_small i) (weight_small i))
+  moved_small i =
+      omega (
+        arith,
+        small_add (2 ^ 39) (2 ^ 34) (places (vec_items s.sums) i) ((problem_of j).A i k *ℤ d) (t.sums_small i)
+            (small_mul 1048576 16384 ((problem_of j).A i k) d (a_small j (k * j.rows + i)) hd),
+      )
 
-  pub sum_in : (i : ℕ) (x : ℤ) → x ≡ places (vec_items s.sums) i → nat_abs x ≤ 2 ^ 61
-  sum_in i x e = rw e (omega (arith, t.sums_small i))
+  -- row i's sum x and its weight w, as they are read
+  module _ (i : ℕ) (x w : ℤ) (ex : x ≡ places (vec_items s.sums) i) (ew : w ≡ (problem_of j).A i k) where
+    sum_in : nat_abs x ≤ 2 ^ 41
+    sum_in = rw ex (omega (arith, t.sums_small i))
 
-  pub weight_in : (i : ℕ) (w : ℤ) → w ≡ (problem_of j).A i k → nat_abs (w *ℤ d) ≤ 2 ^ 61
-  weight_in i w e = rw e (omega (arith, weight_small i))
+    weight_in : nat_abs w ≤ 2097152
+    weight_in = rw ew (omega (arith, a_small j (k * j.rows + i)))
 
-  pub moved_is : (i : ℕ) (x w r : ℤ) → x ≡ places (vec_items s.sums) i → w ≡ (problem_of j).A i k → r ≡ x +ℤ w *ℤ d →
-      back r ≡ places (vec_items s.sums) i +ℤ (problem_of j).A i k *ℤ d
-  moved_is i x w r ex ew er =
-      let e : r ≡ places (vec_items s.sums) i +ℤ (problem_of j).A i k *ℤ d = cc in
-      back_of (2 ^ 40) r _ e (moved_small i) (lit< tt)
+    pub weighed_fits : SFits w64 (back w *ℤ back d)
+    weighed_fits = product_fits x w d sum_in weight_in hd
 
-  pub moved_in : (i : ℕ) (y : ℤ) → y ≡ places (vec_items s.sums) i +ℤ (problem_of j).A i k *ℤ d → nat_abs y ≤ 2 ^ 54
-  moved_in i y e = rw e (omega (arith, moved_small i))
+    pub moved_fits : SFits w64 (back x +ℤ back (back w *ℤ back d))
+    moved_fits = raised_fits x w d sum_in weight_in hd
+
+    pub moved_is : back (back x +ℤ back (back w *ℤ back d)) ≡ places (vec_items s.sums) i +ℤ (problem_of j).A i k *ℤ d
+    moved_is = raised_is x w d sum_in weight_in hd ∙ cc
+
+  -- so near that a row's ticks are exact
+  pub moved_near : (i : ℕ) (low high y : ℤ) → low ≡ (problem_of j).lo i → high ≡ (problem_of j).hi i → y ≡ places (vec_items s.sums) i +ℤ (problem_of j).A i k *ℤ d →
+      Near low high y
+  moved_near i low high y el eh ey =
+      record {
+        low_near = small_of 536870912 _ _ el (lo_small j i);
+        high_near = small_of 536870912 _ _ eh (hi_small j i);
+        sum_near = small_of (2 ^ 54) _ _ ey (omega (arith, moved_small i));
+      }
 
   pub ticks_are : (i : ℕ) (low high y r : ℤ) → low ≡ (problem_of j).lo i → high ≡ (problem_of j).hi i →
       y ≡ places (vec_items s.sums) i +ℤ (problem_of j).A i k *ℤ d → r ≡ excess low high y → r ≡ ticks j s k d i
@@ -78,9 +90,9 @@ module _ (j : Job) (s : Room) (k : ℕ) (d : ℤ) (t : Tame j s) (hd : nat_abs d
       let e : total +ℤ back r ≡ ∑ (i + 1) (ticks j s k d) = cc in
       back_is (2 ^ 47) (total +ℤ back r) (turn_small i total r l et er) (lit< tt) ∙ e
 
-  pub ticks_all : (i : ℕ) (e total : ℤ) → i ≡ j.rows → e ≡ d → total ≡ ∑ i (ticks j s k e) → total ≡ outside_after j s k d
+  pub ticks_all : (i : ℕ) (total : ℤ) → i ≡ j.rows → total ≡ ∑ i (ticks j s k d) → total ≡ outside_after j s k d
   unfolding outside_after
-  ticks_all i e total ei ee et = et ∙ ap (λ (v : ℤ). ∑ i (ticks j s k v)) ee ∙ ap (λ (n : ℕ). ∑ n (ticks j s k d)) ei
+  ticks_all i total ei et = et ∙ ap (λ (n : ℕ). ∑ n (ticks j s k d)) ei
 
   pub after_small : nat_abs (outside_after j s k d) ≤ 2 ^ 46
   unfolding outside_after

@@ -1,10 +1,8 @@
 -- One turn of the walk: what is left of it, from the point that a move leads to.
-use Rattle.std.proofs.Common.{◌≡◌, ℕ, zero, suc, ◌+◌, ◌-◌, ◌<◌, ◌≤◌, Bool, true, false, cond, List, ℤ, neg_ℤ, nat_abs, is_some, Some, None, Option, sym, ap, ◌∙◌, add-zero, arith}
+use Rattle.std.proofs.Common.{◌≡◌, ℕ, zero, suc, ◌+◌, ◌-◌, ◌<◌, ◌≤◌, Bool, true, false, cond, List, ℤ, is_some, Some, None, Option, sym, ap, ◌∙◌, add-zero, arith}
 use native.Mathlib.Nat.{sub-zero}
-use Rattle.std.proofs.lemmas.Bool.{cond_both}
 use Rattle.duality.specs.Problem.{Problem}
-use Rattle.duality.proofs.Sizes.{nat_abs_neg}
-use Rattle.walk.specs.Moves.{after, step_of}
+use Rattle.walk.specs.Moves.{after}
 use Rattle.walk.specs.ProblemWalks.{first_move, Ended, one_more, onward, walk_from}
 use Rattle.walk.specs.declared.moves.Move.{Move}
 use Rattle.walk.specs.declared.ends.End.TheVariants.{Settled, Spent}
@@ -66,6 +64,3 @@ pub from_start : (P : Problem) (b : ℕ) (z : List ℤ) → plus 0 (walk_from P 
 from_start P b z =
     let count : (w : Ended) → plus 0 w ≡ w = λ w. ap (λ (n : ℕ). record { point = w.point; moves = n; end = w.end }) (add-zero w.moves) in
     ap (λ (n : ℕ). plus 0 (walk_from P n z)) (sub-zero b) ∙ count (walk_from P b z)
-
-pub step_small : (m : Move) → nat_abs m.size ≤ 16384 → nat_abs (step_of m) ≤ 16384
-step_small m h = cond_both m.up m.size (neg_ℤ m.size) (λ (v : ℤ). nat_abs v ≤ 16384) (λ _. h) (λ _. rw (nat_abs_neg m.size) h)

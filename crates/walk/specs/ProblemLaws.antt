@@ -11,6 +11,7 @@ use Rattle.walk.specs.ProblemLowering.{Below, Step}
 use Rattle.walk.specs.ProblemWalks.{walk_from, ended}
 use Rattle.walk.specs.declared.moves.Move.{Move}
 use Rattle.walk.specs.declared.ends.Walked.{Walked}
+use Rattle.walk.specs.declared.ends.Unwalked.{Unwalked}
 use Rattle.walk.specs.declared.ends.Unfit.{Unfit}
 use Rattle.walk.specs.declared.ends.Unfit.TheVariants.{OutOfBounds, OtherSizes}
 use Rattle.walk.specs.declared.ends.End.TheVariants.{Settled, Spent}
@@ -39,7 +40,13 @@ pub record Lawful (P : Problem) (budget : ℕ) (z y : List ℤ) (w : Walked) : T
   pub settled : w.end ≡ Settled → Descent P y → ⊥
   pub spent : w.end ≡ Spent → (w.moves ≡ budget) × Descent P y
 
--- how the call answers, with room for n ropes and m rows, and with the point z before and y after it
+-- how a call that asks for memory answers, with the point z before and y after it
+abbrev pub Asked : Problem → ℕ → List ℤ → List ℤ → Result Walked Unwalked → Type 0
+Asked P budget z y (Ok w) = (is_in_bounds P z ≡ true) × (ended y w ≡ walk_from P budget z)
+Asked P budget z y (Err Unwalked.OutOfBounds) = (is_in_bounds P z ≡ false) × (y ≡ z)
+Asked P budget z y (Err Unwalked.NoMemory) = (is_in_bounds P z ≡ true) × (y ≡ z)
+
+-- how a call answers that is handed room for n ropes and m rows, with the point z before and y after it
 abbrev pub Outcome : Problem → (n m budget : ℕ) → List ℤ → List ℤ → Result Walked Unfit → Type 0
 Outcome P n m budget z y (Ok w) = (has_sizes P n m ≡ true) × (is_in_bounds P z ≡ true) × (ended y w ≡ walk_from P budget z)
 Outcome P n m budget z y (Err OtherSizes) = (has_sizes P n m ≡ false) × (y ≡ z)

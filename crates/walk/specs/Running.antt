@@ -5,7 +5,8 @@ use Rattle.duality.specs.Sums.{Vector, ∑}
 use Rattle.duality.specs.Problem.{row_at}
 use Rattle.job.specs.Numbers.{problem_of}
 use Rattle.job.specs.Points.{gradient}
-use Rattle.job.specs.Rows.{excess, outside}
+use Rattle.terms.specs.Ticks.{excess}
+use Rattle.job.specs.Rows.{outside}
 use Rattle.job.specs.declared.numbers.Job.{Job}
 use Rattle.walk.specs.ProblemLowering.{lower}
 use Rattle.walk.specs.declared.room.Room.{Room}

@@ -1,6 +1,12 @@
 //! How a walk ends.
+ghost use Rattle.std.specs.Prelude.{◌≡◌, Some};
+ghost use Rattle.walk.specs.Ends.{name_of};
+ghost use Rattle.walk.specs.declared.ends.Unwalked.TheVariants.{NoMemory};
 
-#[derive(Clone, Copy)]
+use std::alloc::AllocError;
+use std::fmt;
+
+#[derive(Clone, Copy, PartialEq, Eq, Debug)]
 pub enum End {
     /// No single move lowers.
     Settled,
@@ -8,7 +14,18 @@ pub enum End {
     Spent,
 }
 
-#[derive(Clone, Copy)]
+impl fmt::Display for End {
+    ghost output = { λ e. Some (name_of e) };
+
+    fn fmt<W: fmt::Write>(&self, f: &mut fmt::Formatter<W>) -> fmt::Result {
+        f.write_str(match self {
+            End::Settled => "settled",
+            End::Spent => "spent",
+        })
+    }
+}
+
+#[derive(Clone, Copy, PartialEq, Eq, Debug)]
 pub struct Walked {
     /// How many moves were taken.
     pub moves: u32,
@@ -16,15 +33,23 @@ pub struct Walked {
 }
 
 /// Why no walk was made. The point stands as it was.
-#[derive(Clone, Copy)]
+#[derive(Clone, Copy, PartialEq, Eq, Debug)]
 pub enum Unwalked {
     /// The list has another length than there are ropes, or a number outside its bounds.
     OutOfBounds,
     NoMemory,
 }
 
+impl From<AllocError> for Unwalked {
+    ghost from_gives = { λ _ e. e ≡ NoMemory };
+
+    fn from(_: AllocError) -> Unwalked {
+        Unwalked::NoMemory
+    }
+}
+
 /// Why no walk was made in the room that was handed over. The point stands as it was.
-#[derive(Clone, Copy)]
+#[derive(Clone, Copy, PartialEq, Eq, Debug)]
 pub enum Unfit {
     /// The list has another length than there are ropes, or a number outside its bounds.
     OutOfBounds,

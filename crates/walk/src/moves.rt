@@ -1,35 +1,39 @@
 //! Moves: one rope by one size, up or down.
-ghost use Rattle.std.specs.Prelude.{◌≡◌, ◌<◌, ◌≤◌, unsigned_abs};
+ghost use Rattle.std.specs.Prelude.{◌≡◌, ℕ, ◌<◌, ◌≤◌, length, unsigned_abs};
 ghost use Rattle.duality.specs.Lists.{places};
-ghost use Rattle.walk.specs.Moves.{sizes, step_of};
+ghost use Rattle.job.specs.Numbers.{problem_of};
+
+use job::Job;
 
 #[derive(Clone, Copy)]
 pub(crate) struct Move {
     pub(crate) rope: usize,
-    pub(crate) size: i64,
-    pub(crate) up: bool,
+    /// The size, negative where the rope goes down.
+    pub(crate) by: i64,
 }
 
-pub(crate) const SIZES: usize = 15;
-
-const TABLE: [i64; SIZES] = [
+/// The sizes of moves, the largest first.
+pub(crate) const SIZES: [i64; 15] = [
     16384, 8192, 4096, 2048, 1024, 512, 256, 128, 64, 32, 16, 8, 4, 2, 1,
 ];
 
-/// The size at a place of the table, the largest first.
-pub(crate) fn size_at(k: usize) -> i64
-    requires { k < 15 }
-    ensures value { result ≡ places sizes k }
-    ensures bound { unsigned_abs result ≤ 16384 }
-{
-    TABLE[k]
+/// A change of one of a job's ropes, no larger than the largest size.
+#[derive(Clone, Copy)]
+pub(crate) struct Shift<'a> {
+    pub(crate) job: &'a Job,
+    pub(crate) rope: usize,
+    pub(crate) by: i64,
+    ghost there: { rope < job.now.ropes },
+    ghost small: { unsigned_abs by ≤ 16384 },
 }
 
-/// By how much a move changes its rope.
-pub(crate) fn step(m: Move) -> i64
-    requires { unsigned_abs m.size ≤ 16384 }
-    ensures value { result ≡ step_of m }
-    ensures bound { unsigned_abs result ≤ 16384 }
-{
-    if m.up { m.size } else { -m.size }
+impl<'a> Shift<'a> {
+    /// The weights of the rope in all rows.
+    pub(crate) fn weights(self) -> &'a [i64]
+        ensures long { length result.now ≡ self.entry.job.now.rows }
+        ensures are { (i : ℕ) → i < self.entry.job.now.rows → places result.now i ≡ (problem_of self.entry.job.now).A i self.entry.rope }
+    {
+        let start = self.rope * self.job.rows;
+        &self.job.a[start..start + self.job.rows]
+    }
 }

@@ -5,12 +5,13 @@ ghost use Rattle.duality.specs.Problem.{row_at};
 ghost use Rattle.job.specs.Numbers.{has_sizes, problem_of};
 ghost use Rattle.job.specs.Points.{gradient as gradient_of};
 ghost use Rattle.duality.specs.Tests.{many_within};
-ghost use Rattle.job.specs.Rows.{excess as excess_of};
 ghost use Rattle.walk.specs.ProblemLowering.{lower as lower_of};
 ghost use Rattle.walk.specs.Running.{Lists, Sized, ropes_in, rows_in, Tracks, Tame, outside_after, gain_of, looks_lower, Raised, Shifted};
 
+use crate::moves::Shift;
 use job::Job;
 use std::alloc::{AllocError, Global};
+use terms::excess;
 
 /// What a walk needs of memory, taken before it: its running sums. It serves any number of walks, one after the other.
 #[derive(Drop)]
@@ -23,35 +24,13 @@ pub struct Room {
     pub(crate) outside: i64,
 }
 
-/// A number once its rope has moved by d.
-fn shifted(x: i64, w: i64, d: i64) -> i64
-    requires x { unsigned_abs x ≤ 2 ^ 61 }
-    requires product { unsigned_abs (w *ℤ d) ≤ 2 ^ 61 }
-    ensures { result ≡ x +ℤ w *ℤ d }
-{
-    x + w * d
-}
-
-/// How many ticks s lies below low or above high.
-fn excess(low: i64, high: i64, s: i64) -> i64
-    requires low { unsigned_abs low ≤ 536870912 }
-    requires high { unsigned_abs high ≤ 536870912 }
-    requires s { unsigned_abs s ≤ 2 ^ 54 }
-    ensures { result ≡ excess_of low high s }
-{
-    let under = low - s;
-    let above = s - high;
-    let most = under.max(above);
-    0i64.max(most)
-}
-
 fn gain(slope: i64, curve: i64, d: i64) -> i64
     requires slope { unsigned_abs slope ≤ 2 ^ 41 }
     requires curve { unsigned_abs curve ≤ 1048576 }
     requires d { unsigned_abs d ≤ 16384 }
     ensures { result ≡ gain_of slope curve d }
 {
-    d * shifted(slope, curve, d)
+    d * (slope + curve * d)
 }
 
 /// Whether fewer ticks lie outside than before, or as many while the cost changes by less than 0.
@@ -67,30 +46,28 @@ fn lower(before: i64, after: i64, by: i64) -> bool
     }
 }
 
-/// Each row's sum once rope k has moved by d.
-fn shift_sums(sums: &mut [i64], job: &Job, k: usize, d: i64)
-    requires long { length sums.old ≡ job.now.rows }
-    requires rope { k < job.now.ropes }
-    requires small { unsigned_abs d ≤ 16384 }
+/// Each row's sum after a shift.
+fn shift_sums(sums: &mut [i64], shift: Shift)
+    requires long { length sums.old ≡ shift.job.now.rows }
     requires sums_small { (i : ℕ) → unsigned_abs (places sums.old i) ≤ 2 ^ 41 }
-    ensures { Raised sums.old sums.new (λ i. (problem_of job.now).A i k) d }
+    ensures { Raised sums.old sums.new (λ i. (problem_of shift.entry.job.now).A i shift.entry.rope) shift.entry.by }
 {
-    for i in 0..job.rows {
-        sums[i] = shifted(sums[i], job.a[k * job.rows + i], d);
+    let weights = shift.weights();
+    for (i, sum) in sums.iter_mut().enumerate() {
+        *sum += weights[i] * shift.by;
     }
 }
 
-/// The gradient once rope k has moved by d: G counts by its row and by its column.
-fn shift_slopes(slopes: &mut [i64], job: &Job, k: usize, d: i64)
-    requires long { length slopes.old ≡ job.now.ropes }
-    requires rope { k < job.now.ropes }
-    requires small { unsigned_abs d ≤ 16384 }
+/// The gradient after a shift: G counts by its row and by its column.
+fn shift_slopes(slopes: &mut [i64], shift: Shift)
+    requires long { length slopes.old ≡ shift.job.now.ropes }
     requires slopes_small { (i : ℕ) → unsigned_abs (places slopes.old i) ≤ 2 ^ 41 }
-    ensures { Raised slopes.old slopes.new (λ i. (problem_of job.now).G i k +ℤ (problem_of job.now).G k i) d }
+    ensures { Raised slopes.old slopes.new (λ i. (problem_of shift.entry.job.now).G i shift.entry.rope +ℤ (problem_of shift.entry.job.now).G shift.entry.rope i) shift.entry.by }
 {
-    for i in 0..job.ropes {
-        let w = job.g[i * job.ropes + k] + job.g[k * job.ropes + i];
-        slopes[i] = shifted(slopes[i], w, d);
+    let Shift { job, rope, by } = shift;
+    for (i, slope) in slopes.iter_mut().enumerate() {
+        let w = job.g[i * job.ropes + rope] + job.g[rope * job.ropes + i];
+        *slope += w * by;
     }
 }
 
@@ -100,8 +77,8 @@ fn fill_sums(sums: &mut [i64], job: &Job, z: &[i64])
     requires point { many_within job.now.ropes 32768 z.now ≡ true }
     ensures { Lists job.now.rows sums.new (row_at (problem_of job.now) (places z.now)) }
 {
-    for i in 0..job.rows {
-        sums[i] = job.row_sum(i, z).unwrap_or(0);
+    for (i, sum) in sums.iter_mut().enumerate() {
+        *sum = job.row_sum(i, z).unwrap_or(0);
     }
 }
 
@@ -111,8 +88,8 @@ fn fill_slopes(slopes: &mut [i64], job: &Job, z: &[i64])
     requires point { many_within job.now.ropes 32768 z.now ≡ true }
     ensures { Lists job.now.ropes slopes.new (gradient_of (problem_of job.now) (places z.now)) }
 {
-    for k in 0..job.ropes {
-        slopes[k] = job.gradient(k, z).unwrap_or(0);
+    for (k, slope) in slopes.iter_mut().enumerate() {
+        *slope = job.gradient(k, z).unwrap_or(0);
     }
 }
 
@@ -148,46 +125,43 @@ impl Room {
         self.outside = outside;
     }
 
-    /// Follows a move of rope k by d.
-    pub(crate) fn shift(&mut self, job: &Job, k: usize, d: i64)
-        requires tame { Tame job.now self.old }
-        requires rope { k < job.now.ropes }
-        requires small { unsigned_abs d ≤ 16384 }
-        ensures { Shifted job.now self.old self.new k d }
+    /// Follows a shift.
+    pub(crate) fn shift(&mut self, shift: Shift)
+        requires { Tame shift.job.now self.old }
+        ensures { Shifted shift.entry.job.now self.old self.new shift.entry.rope shift.entry.by }
     {
-        let outside = self.outside_after(job, k, d);
+        let outside = self.outside_after(shift);
         self.outside = outside;
-        shift_sums(&mut self.sums, job, k, d);
-        shift_slopes(&mut self.slopes, job, k, d);
+        shift_sums(&mut self.sums, shift);
+        shift_slopes(&mut self.slopes, shift);
     }
 
-    /// The ticks outside once rope k has moved by d.
-    fn outside_after(&self, job: &Job, k: usize, d: i64) -> i64
-        requires tame { Tame job.now self.now }
-        requires rope { k < job.now.ropes }
-        requires small { unsigned_abs d ≤ 16384 }
-        ensures { result ≡ outside_after job.now self.now k d }
+    /// The ticks outside after a shift.
+    fn outside_after(&self, shift: Shift) -> i64
+        requires { Tame shift.job.now self.now }
+        ensures { result ≡ outside_after shift.entry.job.now self.now shift.entry.rope shift.entry.by }
     {
+        let job = shift.job;
+        let weights = shift.weights();
         let mut total = 0i64;
-        for i in 0..job.rows {
-            let s = shifted(self.sums[i], job.a[k * job.rows + i], d);
+        for (i, sum) in self.sums.iter().enumerate() {
+            let s = *sum + weights[i] * shift.by;
             total += excess(job.lo[i], job.hi[i], s);
         }
         total
     }
 
-    /// Whether a move of rope k by d lowers. Where every row is met and the cost does not fall, no row need be looked at.
-    pub(crate) fn lowers(&self, job: &Job, k: usize, d: i64) -> bool
-        requires tame { Tame job.now self.now }
-        requires rope { k < job.now.ropes }
-        requires small { unsigned_abs d ≤ 16384 }
-        ensures { result ≡ looks_lower job.now self.now k d }
+    /// Whether a shift lowers. Where every row is met and the cost does not fall, no row need be looked at.
+    pub(crate) fn lowers(&self, shift: Shift) -> bool
+        requires { Tame shift.job.now self.now }
+        ensures { result ≡ looks_lower shift.entry.job.now self.now shift.entry.rope shift.entry.by }
     {
-        let by = gain(self.slopes[k], job.g[k * job.ropes + k], d);
-        if self.outside == 0 && by >= 0 {
+        let Shift { job, rope, by } = shift;
+        let gain = gain(self.slopes[rope], job.g[rope * job.ropes + rope], by);
+        if self.outside == 0 && gain >= 0 {
             return false;
         }
-        let after = self.outside_after(job, k, d);
-        lower(self.outside, after, by)
+        let after = self.outside_after(shift);
+        lower(self.outside, after, gain)
     }
 }

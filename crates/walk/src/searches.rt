@@ -7,9 +7,9 @@ ghost use Rattle.walk.specs.Moves.{of_rope};
 ghost use Rattle.walk.specs.Running.{Tracks};
 ghost use Rattle.walk.specs.ProblemWalks.{first, first_move, moved};
 
-use crate::moves::{Move, SIZES, size_at};
+use crate::moves::{Move, SIZES, Shift};
 use crate::room::Room;
-use crate::tries::try_move;
+use crate::tries::try_shift;
 use job::Job;
 
 /// The first move of rope k that lowers; it is made if `may` allows it.
@@ -20,23 +20,12 @@ fn try_rope(job: &Job, z: &mut [i64], room: &Room, k: usize, may: bool) -> Optio
     ensures value { result ≡ first (lowers (problem_of job.now) z.old) (of_rope k) }
     ensures point { z.new ≡ (if may then moved result z.old else z.old) }
 {
-    for i in 0..SIZES {
-        let size = size_at(i);
-        let plus = Move {
-            rope: k,
-            size,
-            up: true,
-        };
-        if try_move(job, z, room, plus, may) {
-            return Some(plus);
-        }
-        let minus = Move {
-            rope: k,
-            size,
-            up: false,
-        };
-        if try_move(job, z, room, minus, may) {
-            return Some(minus);
+    for size in SIZES {
+        for by in [size, -size] {
+            let shift = Shift { job, rope: k, by };
+            if try_shift(z, room, shift, may) {
+                return Some(Move { rope: k, by });
+            }
         }
     }
     None

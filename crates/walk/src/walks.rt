@@ -2,13 +2,12 @@
 ghost use Rattle.std.specs.Prelude.{◌≡◌, IfOk};
 ghost use Rattle.job.specs.ProblemBounds.{InBounds};
 ghost use Rattle.job.specs.Numbers.{problem_of};
-ghost use Rattle.walk.specs.Laws.{Outcome, Lawful};
-ghost use Rattle.walk.specs.ProblemLaws.{Outcome as OutcomeIn, Lawful as LawfulIn};
-ghost use Rattle.walk.specs.Running.{Sized, ropes_in, rows_in, Tracks};
+ghost use Rattle.walk.specs.ProblemLaws.{Asked, Outcome, Lawful};
+ghost use Rattle.walk.specs.Running.{Sized, ropes_in, rows_in};
 ghost use Rattle.walk.specs.ProblemWalks.{walk_from, ended};
 
 use crate::ends::{End, Unfit, Unwalked, Walked};
-use crate::moves::step;
+use crate::moves::Shift;
 use crate::room::Room;
 use crate::searches::search;
 use job::Job;
@@ -17,10 +16,12 @@ use std::alloc::Global;
 /// Makes the first move that lowers, until none does or the budget is used.
 fn descend(job: &Job, z: &mut [i64], room: &mut Room, budget: u32) -> Walked
     requires inside { InBounds (problem_of job.now) z.old }
-    requires tracks { Tracks job.now z.old room.old }
+    requires sized { Sized job.now.ropes job.now.rows room.old }
     ensures value { ended z.new result ≡ walk_from (problem_of job.now) budget z.old }
+    ensures law { Lawful (problem_of job.now) budget z.old z.new result }
     ensures room { Sized job.now.ropes job.now.rows room.new }
 {
+    room.start(job, z);
     let mut moves = 0u32;
     loop {
         let may = moves < budget;
@@ -38,8 +39,11 @@ fn descend(job: &Job, z: &mut [i64], room: &mut Room, budget: u32) -> Walked
                         end: End::Spent,
                     };
                 }
-                let by = step(m);
-                room.shift(job, m.rope, by);
+                room.shift(Shift {
+                    job,
+                    rope: m.rope,
+                    by: m.by,
+                });
                 moves += 1;
             }
         }
@@ -52,16 +56,13 @@ fn descend(job: &Job, z: &mut [i64], room: &mut Room, budget: u32) -> Walked
 /// and it never leaves the bounds. `Settled` says that no single move lowers any more, `Spent` that one does and the budget is used.
 /// A refusal leaves the point as it stood.
 pub fn walk(heap: Global, job: &Job, point: &mut [i64], budget: u32) -> Result<Walked, Unwalked>
-    ensures value { Outcome job.now budget point.old point.new result }
-    ensures law { IfOk result (λ w. Lawful job.now budget point.old point.new w) }
+    ensures value { Asked (problem_of job.now) budget point.old point.new result }
+    ensures law { IfOk result (λ w. Lawful (problem_of job.now) budget point.old point.new w) }
 {
     if !job.in_bounds(point) {
         return Err(Unwalked::OutOfBounds);
     }
-    let Ok(mut room) = Room::new(heap, job) else {
-        return Err(Unwalked::NoMemory);
-    };
-    room.start(job, point);
+    let mut room = Room::new(heap, job)?;
     Ok(descend(job, point, &mut room, budget))
 }
 
@@ -69,8 +70,8 @@ pub fn walk(heap: Global, job: &Job, point: &mut [i64], budget: u32) -> Result<W
 ///
 /// A refusal leaves the point as it stood, and the room has room for as much as before.
 pub fn walk_in(room: &mut Room, job: &Job, point: &mut [i64], budget: u32) -> Result<Walked, Unfit>
-    ensures value { OutcomeIn (problem_of job.now) (ropes_in room.old) (rows_in room.old) budget point.old point.new result }
-    ensures law { IfOk result (λ w. LawfulIn (problem_of job.now) budget point.old point.new w) }
+    ensures value { Outcome (problem_of job.now) (ropes_in room.old) (rows_in room.old) budget point.old point.new result }
+    ensures law { IfOk result (λ w. Lawful (problem_of job.now) budget point.old point.new w) }
     ensures room { Sized (ropes_in room.old) (rows_in room.old) room.new }
 {
     if !room.is_for(job) {
@@ -79,6 +80,5 @@ pub fn walk_in(room: &mut Room, job: &Job, point: &mut [i64], budget: u32) -> Re
     if !job.in_bounds(point) {
         return Err(Unfit::OutOfBounds);
     }
-    room.start(job, point);
     Ok(descend(job, point, room, budget))
 }

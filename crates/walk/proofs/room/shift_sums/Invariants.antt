@@ -3,4 +3,4 @@ use Rattle.walk.proofs.Raising.{RaisedBelow}
 use Rattle.walk.proofs.room.shift_sums.Given as goal
 
 abbrev pub invariant-loop-i : goal.invariant-loop-i
-invariant-loop-i l = RaisedBelow l.initial.sums l.sums (λ i. (problem_of l.job).A i l.k) l.d l.i
+invariant-loop-i l = RaisedBelow l.initial.sums l.sums (λ i. (problem_of l.shift.job.now).A i l.shift.rope) l.shift.by l.i

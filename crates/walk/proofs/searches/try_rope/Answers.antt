@@ -1,69 +1,50 @@
-use Rattle.std.proofs.Common.{true, false, sym, refl, ap, ◌∙◌, lit<, rules}
-use Rattle.job.proofs.Bits.{back, back_of, small_back}
+use Rattle.std.proofs.Common.{sym, refl, ap, ◌∙◌, lit<}
+use Rattle.duality.specs.Lists.{places}
+use Rattle.job.proofs.Bits.{back_is, small_back}
 use Rattle.job.specs.Numbers.{problem_of}
+use Rattle.walk.specs.Moves.{sizes}
 use Rattle.walk.specs.ProblemLowering.{lowers}
 use Rattle.walk.specs.ProblemWalks.{first}
 use Rattle.walk.proofs.Sizes.{sizes_small}
 use Rattle.walk.proofs.Firsts.{left_start, left_none}
-use Rattle.walk.proofs.AlongSizes.{move, plus_hit, minus_hit, both_miss, hit_point, inside_at, tracks_at}
+use Rattle.walk.proofs.AlongSizes.{way_is, way_small, in_start, hit, miss}
 use Rattle.walk.proofs.searches.try_rope.Goals as goal
 
-pub loop-i-init : goal.loop-i-init
-loop-i-init c = (refl, ap (first (lowers (problem_of c.args.job.now) c.args.z.now)) (left_start c.args.k))
+pub loop-size-init : goal.loop-size-init
+loop-size-init c = (refl, ap (first (lowers (problem_of c.args.job.now) c.args.z.now)) (left_start c.args.k))
 
-pub try_move-requires : goal.try_move-requires
-try_move-requires c =
-    record {
-      inside = inside_at _ _ _ c.loop-i.invariant.0 c.requires.inside;
-      tracks = tracks_at _ _ _ _ c.loop-i.invariant.0 c.requires.tracks;
-      rope = c.requires.rope;
-      small = small_back 16384 c.size_at-size.result c.size_at-size.ensures.bound (lit< tt);
-    }
+pub loop-by-init : goal.loop-by-init
+unfolding sizes
+loop-by-init c = (
+  c.loop-size.invariant.0,
+  in_start (lowers (problem_of c.args.job.now) c.args.z.now) c.args.k c.loop-size.size-index _ _ c.loop-size-test.true
+      (back_is 16384 (places sizes c.loop-size.size-index) (sizes_small c.loop-size.size-index) (lit< tt)) c.loop-size.invariant.1,
+)
 
-pub try_move-requires-in-loop-i : goal.try_move-requires-in-loop-i
-try_move-requires-in-loop-i c =
-    record {
-      inside = inside_at _ _ _ (c.if-try_move.ensures.point ∙ c.loop-i.invariant.0) c.requires.inside;
-      tracks = tracks_at _ _ _ _ (c.if-try_move.ensures.point ∙ c.loop-i.invariant.0) c.requires.tracks;
-      rope = c.requires.rope;
-      small = small_back 16384 c.size_at-size.result c.size_at-size.ensures.bound (lit< tt);
-    }
+pub invariant_of-shift : goal.invariant_of-shift
+unfolding sizes
+invariant_of-shift c =
+    let h = small_back 16384 (places sizes c.loop-size.size-index) (sizes_small c.loop-size.size-index) (lit< tt) in
+    record { there = c.requires.rope; small = way_small _ h c.loop-by.by-index c.loop-by-test.true }
 
-pub returns-then-try_move : goal.returns-then-try_move
-returns-then-try_move c =
-    let s = back_of 16384 c.size_at-size.result _ c.size_at-size.ensures.value (sizes_small c.loop-i.i) (lit< tt) in
-    record {
-      value = plus_hit (problem_of c.args.job.now) c.args.z.now c.args.k c.loop-i.i _ c.loop-i-test.true s c.loop-i.invariant.1 c.loop-i.z c.loop-i.invariant.0
-          c.if-try_move.ensures.value;
-      point = hit_point c.args.z.now c.loop-i.z c.try_move.new.z (move c.args.k (back c.size_at-size.result) true) c.args.may c.loop-i.invariant.0
-          c.if-try_move.ensures.point;
-    }
+pub returns-then-try_shift-clause-value : goal.returns-then-try_shift-clause-value
+unfolding sizes
+returns-then-try_shift-clause-value c =
+    let h = small_back 16384 (places sizes c.loop-size.size-index) (sizes_small c.loop-size.size-index) (lit< tt) in
+    hit (problem_of c.args.job.now) c.args.z.now c.args.k c.loop-size.size-index _ c.loop-by.by-index c.loop-by-test.true _
+    (way_is _ h c.loop-by.by-index c.loop-by-test.true) c.loop-by.invariant.1 c.loop-by.z c.loop-by.invariant.0 c.if-try_shift.ensures.value
 
-pub returns-then-try_move-2 : goal.returns-then-try_move-2
-returns-then-try_move-2 c =
-    let s = back_of 16384 c.size_at-size.result _ c.size_at-size.ensures.value (sizes_small c.loop-i.i) (lit< tt) in
-    let e = c.if-try_move.ensures.point ∙ c.loop-i.invariant.0 in
-    record {
-      value = minus_hit (problem_of c.args.job.now) c.args.z.now c.args.k c.loop-i.i _ c.loop-i-test.true s c.loop-i.invariant.1 c.loop-i.z c.try_move.new.z
-          c.loop-i.invariant.0 e
-          c.if-try_move.ensures.value c.if-try_move-2.ensures.value;
-      point = hit_point c.args.z.now c.try_move.new.z c.try_move-in-loop-i.new.z (move c.args.k (back c.size_at-size.result) false) c.args.may e
-          c.if-try_move-2.ensures.point;
-    }
-
-pub loop-i-preserved : goal.loop-i-preserved
-loop-i-preserved c =
-    let s = back_of 16384 c.size_at-size.result _ c.size_at-size.ensures.value (sizes_small c.loop-i.i) (lit< tt) in
-    let e = c.if-try_move.ensures.point ∙ c.loop-i.invariant.0 in (
-      c.if-try_move-2.ensures.point ∙ e,
-      both_miss (problem_of c.args.job.now) c.args.z.now c.args.k c.loop-i.i _ c.loop-i-test.true s c.loop-i.invariant.1 c.loop-i.z c.try_move.new.z c.loop-i.invariant.0 e
-          c.if-try_move.ensures.value c.if-try_move-2.ensures.value,
+pub loop-by-preserved : goal.loop-by-preserved
+unfolding sizes
+loop-by-preserved c =
+    let h = small_back 16384 (places sizes c.loop-size.size-index) (sizes_small c.loop-size.size-index) (lit< tt) in (
+      c.if-try_shift.ensures.point ∙ c.loop-by.invariant.0,
+      miss (problem_of c.args.job.now) c.args.z.now c.args.k c.loop-size.size-index _ c.loop-by.by-index c.loop-by-test.true _
+          (way_is _ h c.loop-by.by-index c.loop-by-test.true) c.loop-by.invariant.1 c.loop-by.z c.loop-by.invariant.0 c.if-try_shift.ensures.value,
     )
 
-pub returns : goal.returns
+pub returns-clause-value : goal.returns-clause-value
 unfolding first
-returns c =
-    record {
-      value = sym (ap (first (lowers (problem_of c.args.job.now) c.args.z.now)) (left_none c.args.k c.loop-i.i c.loop-i-test.false)) ∙ c.loop-i.invariant.1;
-      point = c.loop-i.invariant.0 ∙ search rules;
-    }
+returns-clause-value c =
+    sym (ap (first (lowers (problem_of c.args.job.now) c.args.z.now)) (left_none c.args.k c.loop-size.size-index c.loop-size-test.false))
+    ∙ c.loop-size.invariant.1

@@ -4,7 +4,12 @@ use Rattle.walk.specs.ProblemLowering.{lowers}
 use Rattle.walk.specs.Moves.{of_rope}
 use Rattle.walk.specs.ProblemWalks.{first}
 use Rattle.walk.proofs.Firsts.{left_of}
+use Rattle.walk.proofs.AlongSizes.{left_in}
 use Rattle.walk.proofs.searches.try_rope.Given as goal
 
-abbrev pub invariant-loop-i : goal.invariant-loop-i
-invariant-loop-i l = (l.z ≡ l.initial.z) × (first (lowers (problem_of l.job) l.initial.z) (left_of l.k l.i) ≡ first (lowers (problem_of l.job) l.initial.z) (of_rope l.k))
+abbrev pub invariant-loop-size : goal.invariant-loop-size
+invariant-loop-size l = (l.z ≡ l.fn.z) × (first (lowers (problem_of l.job) l.fn.z) (left_of l.k l.size-index) ≡ first (lowers (problem_of l.job) l.fn.z) (of_rope l.k))
+
+abbrev pub invariant-loop-by : goal.invariant-loop-by
+invariant-loop-by l =
+    (l.z ≡ l.fn.z) × (first (lowers (problem_of l.job) l.fn.z) (left_in l.k l.size-index l.size l.by-index) ≡ first (lowers (problem_of l.job) l.fn.z) (of_rope l.k))

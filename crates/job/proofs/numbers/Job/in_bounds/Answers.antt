@@ -15,21 +15,21 @@ returns-then-z-self c =
 pub returns-then-not-between : goal.returns-then-not-between
 returns-then-not-between c =
     let f : SFits w64 (places c.args.z.now c.loop-j.j) = search rules in
-    let l = l_read c.args.self.now c.loop-j.j _ c.index.ensures c.loop-j-test.true in
-    let u = u_read c.args.self.now c.loop-j.j _ c.index-in-loop-j.ensures c.loop-j-test.true in
+    let l = l_read c.args.self.now c.loop-j.j _ c.index.ensures (omega (arith, c.loop-j-test.true, c.if-z-self.false)) in
+    let u = u_read c.args.self.now c.loop-j.j _ c.index-in-loop-j.ensures (omega (arith, c.loop-j-test.true, c.if-z-self.false)) in
     let no' = lies_is (problem_of c.args.self.now) c.args.z.now c.loop-j.j _ _ _ false l u (to_z-of_z w64 _ f) c.if-not-between.ensures in
-    let e = breaks (problem_of c.args.self.now) c.args.z.now c.loop-j.j c.loop-j-test.true no' in
+    let e = breaks (problem_of c.args.self.now) c.args.z.now c.loop-j.j (omega (arith, c.loop-j-test.true, c.if-z-self.false)) no' in
     record { value = e; law = in_bounds_decides (problem_of c.args.self.now) c.args.z.now false e }
 
 pub loop-j-preserved : goal.loop-j-preserved
 loop-j-preserved c =
     let f : SFits w64 (places c.args.z.now c.loop-j.j) = search rules in
-    let l = l_read c.args.self.now c.loop-j.j _ c.index.ensures c.loop-j-test.true in
-    let u = u_read c.args.self.now c.loop-j.j _ c.index-in-loop-j.ensures c.loop-j-test.true in
+    let l = l_read c.args.self.now c.loop-j.j _ c.index.ensures (omega (arith, c.loop-j-test.true, c.if-z-self.false)) in
+    let u = u_read c.args.self.now c.loop-j.j _ c.index-in-loop-j.ensures (omega (arith, c.loop-j-test.true, c.if-z-self.false)) in
     all_more (lies (problem_of c.args.self.now) c.args.z.now) c.loop-j.j c.loop-j.invariant
     (lies_is (problem_of c.args.self.now) c.args.z.now c.loop-j.j _ _ _ true l u (to_z-of_z w64 _ f) c.if-not-between.ensures)
 
 pub returns : goal.returns
 returns c =
-    let e = lie_all (problem_of c.args.self.now) c.args.z.now c.loop-j.j c.if-z-self.false (omega arith) c.loop-j.invariant in
+    let e = lie_all (problem_of c.args.self.now) c.args.z.now c.loop-j.j c.if-z-self.false (omega (arith, c.loop-j-test.false, c.loop-j.auto.j-end, c.if-z-self.false)) c.loop-j.invariant in
     record { value = e; law = in_bounds_decides (problem_of c.args.self.now) c.args.z.now true e }
