@@ -16,21 +16,14 @@ pub(crate) fn with_price(sum: i64, price: i64) -> i64
     sum + 2 * price
 }
 
-/// The number at a place, with 0 for a blank.
-pub(crate) fn number_at<T: Table>(table: &T, i: usize, j: usize) -> i64
-    ensures { result ≡ matrix_of (T.Table.meant table.now) i j }
-{
-    table.place(i, j).unwrap_or(0)
-}
-
-/// Row i times z, place by place.
+/// Row i times z, place by place, with 0 for a blank.
 pub(crate) fn sum_of_places<T: Table>(table: &T, i: usize, z: &[i64]) -> i64
     requires { Summable z.now }
     ensures { result ≡ row (length z.now) (matrix_of (T.Table.meant table.now)) (places z.now) i }
 {
     let mut sum = 0;
     for (j, x) in z.iter().enumerate() {
-        sum += number_at(table, i, j) * *x;
+        sum += table.place(i, j).unwrap_or(0) * *x;
     }
     sum
 }
