@@ -5,79 +5,53 @@
 //! Lengths and places have two bytes, the low one first; the rest has one.
 #![tactic(auto)]
 
-ghost use Rattle.std.specs.Prelude.{◌≤◌, length};
-
 use card::check_card;
 use std::alloc::{AllocError, Global};
-use std::io;
 use std::io::Read;
+use std::{io, iter};
+use wire::{run, word};
 
 /// The longest card that a case may have.
 const MOST: usize = 8192;
 
-#[derive(Drop)]
-struct Input<'a> {
-    bytes: &'a [u8],
-    at: usize,
+/// The cases that one run may have.
+const CASES: usize = 10_000;
+
+fn byte(input: &mut &[u8]) -> Option<u8> {
+    input.split_off_first().copied()
 }
 
-impl<'a> Input<'a> {
-    fn byte(&mut self) -> Option<usize> {
-        let b = self.bytes.get(self.at).copied()?;
-        self.at = self.at.saturating_add(1);
-        Some(b as usize)
-    }
-
-    fn word(&mut self) -> Option<usize> {
-        let low = self.byte()?;
-        let high = self.byte()?;
-        Some(low.saturating_add(high.saturating_mul(256)))
-    }
-
-    /// The next `len` bytes, or those that are left.
-    fn run(&mut self, len: usize) -> &'a [u8] {
-        let from = self.at.min(self.bytes.len());
-        let to = from.saturating_add(len).min(self.bytes.len());
-        self.at = to;
-        if from <= to {
-            &self.bytes[from..to]
-        } else {
-            &self.bytes[0..0]
-        }
-    }
-}
-
-fn base_cards<'a>(heap: Global, input: &mut Input<'a>) -> Result<Vec<&'a [u8]>, AllocError> {
+fn base_cards<'a>(heap: Global, input: &mut &'a [u8]) -> Result<Vec<&'a [u8]>, AllocError> {
     let mut cards = Vec::new(heap);
-    let count = input.byte().unwrap_or(0);
-    for _ in 0..count {
-        let len = input.word().unwrap_or(0);
-        cards.push(input.run(len))?;
+    for _ in 0..byte(input).unwrap_or(0) {
+        let len = word(input).unwrap_or(0);
+        cards.push(run(input, usize::from(len)))?;
     }
     Ok(cards)
 }
 
 /// Lays a base card into the buffer, with 0 past its end.
 fn lay(buffer: &mut [u8], base: &[u8]) {
-    for (k, b) in buffer.iter_mut().enumerate() {
-        *b = base.get(k).copied().unwrap_or(0);
+    let bytes = base.iter().copied().chain(iter::repeat(0));
+    for (place, byte) in buffer.iter_mut().zip(bytes) {
+        *place = byte;
     }
 }
 
 /// Makes the next case in the buffer, and answers its length.
-fn next_case(input: &mut Input, cards: &[&[u8]], buffer: &mut [u8]) -> Option<usize> {
-    let base = input.byte()?;
-    let len = input.word()?;
-    let changes = input.byte()?;
-    lay(buffer, cards.get(base).copied()?);
+fn next_case(input: &mut &[u8], cards: &[&[u8]], buffer: &mut [u8]) -> Option<usize> {
+    let base = byte(input)?;
+    let len = word(input)?;
+    let changes = byte(input)?;
+    lay(buffer, cards.get(usize::from(base)).copied()?);
     for _ in 0..changes {
-        let place = input.word()?;
-        let byte = input.byte()?;
-        if place < buffer.len() && byte < 256 {
-            buffer[place] = byte as u8;
+        let place = word(input)?;
+        let byte = byte(input)?;
+        if let Some(changed) = buffer.get_mut(usize::from(place)) {
+            *changed = byte;
         }
     }
-    Some(len.min(buffer.len()))
+    Some(usize::from(len).min(buffer.len()))
 }
 
 fn report(rt: &HostRuntime, card: &[u8]) -> io::Result<()> {
@@ -97,26 +71,23 @@ fn report(rt: &HostRuntime, card: &[u8]) -> io::Result<()> {
     }
 }
 
-fn run(rt: &HostRuntime) -> anyhow::Result<()> {
+fn run_cases(rt: &HostRuntime) -> anyhow::Result<()> {
     let mut bytes = Vec::new(rt.alloc());
     rt.stdin().read_to_end(&mut bytes)?;
-    let mut input = Input {
-        bytes: bytes.as_slice(),
-        at: 0,
-    };
+    let mut input = bytes.as_slice();
     let cards = base_cards(rt.alloc(), &mut input)?;
     let mut buffer = vec![in rt.alloc(); 0u8; MOST]?;
-    for _ in 0..10000 {
+    for _ in 0..CASES {
         let Some(len) = next_case(&mut input, cards.as_slice(), buffer.as_mut_slice()) else {
             break;
         };
-        if len <= buffer.len() {
-            report(rt, &buffer.as_slice()[0..len])?;
+        if let Some(card) = buffer.get(..len) {
+            report(rt, card)?;
         }
     }
     Ok(())
 }
 
 fn main(rt: HostRuntime) -> anyhow::Result<()> {
-    run(&rt)
+    run_cases(&rt)
 }
