@@ -8,8 +8,7 @@ use Rattle.opening.specs.declared.refusal.Refusal.TheVariants.{OfferLimit, Memor
 use Rattle.terms.specs.Numbers.{Numbers}
 use Rattle.job.specs.Numbers as job
 use Rattle.job.specs.Rows.{judged}
-use Rattle.job.specs.declared.verdict.Verdict.{Verdict}
-use Rattle.job.specs.declared.verdict.Verdict.TheVariants.{Met, Broken, NoPoint}
+use Rattle.terms.specs.declared.unmet.Unmet.{Unmet}
 use Rattle.reading.specs.Plain.{plain}
 use Rattle.exchange.specs.Runs.{Run, exchanged, reported}
 use Rattle.exchange.specs.declared.members.Offer.{Offer as Found}
@@ -59,10 +58,9 @@ unfoldable pub walk_of : State → ℕ → ℕ → Ended
 walk_of s steps moves = walk_from (written s) moves (start_of s steps)
 
 -- its end is offered if it breaks no row
-abbrev pub if_met : Verdict → List ℤ → List Offer
-if_met Met z = point z ∷ []
-if_met (Broken i) z = []
-if_met NoPoint z = []
+abbrev pub if_met : Result (Unit {0}) Unmet → List ℤ → List Offer
+if_met (Ok _) z = point z ∷ []
+if_met (Err _) z = []
 
 abbrev pub walk_offers : State → ℕ → ℕ → List Offer
 walk_offers s steps moves = if_met (judged (written s) (places (walk_of s steps moves).point)) (walk_of s steps moves).point
