@@ -1,7 +1,5 @@
 -- The contents of a job's card, and what is written of them.
-use Rattle.std.proofs.Common.{◌≡◌, ℕ, ◌*◌, ◌≤◌, Bool, true, cond, leb, List, [], ◌++◌, length, drop, ℤ, IfOk, Some, None, Ok, Err, Option, Result, sym, refl, ap, ◌∙◌, subst, arith}
-use Rattle.std.specs.Option.{ok_or}
-use Rattle.std.specs.Result.{result_ok}
+use Rattle.std.proofs.Common.{◌≡◌, ℕ, ◌*◌, ◌≤◌, Bool, true, cond, leb, List, [], ◌++◌, length, drop, ℤ, IfOk, IsOk, IsSome, Some, None, Ok, Err, Option, Result, sym, refl, ap, ◌∙◌, subst, arith}
 use Rattle.std.proofs.lemmas.List.{append-nil, length-append}
 use Rattle.std.proofs.lemmas.Bool.{le-leb}
 use Rattle.block.specs.declared.fault.Fault.{Fault}
@@ -49,6 +47,11 @@ counted s n m g a x curvature rows costs bounds limits slip f er em en ek eg ea 
 counted s n m g a x curvature rows costs bounds limits slip f er em en ek eg ea ec eb ei el Slip =
     ap length (el ∙ append-nil x.slip) ∙ f.long.slip ∙ ap (λ (k : ℕ). k * k) (sym er)
 
+-- sections that have as many numbers as the sizes ask for make contents
+pub built : (o : Option Contents) (s : Sizes) (nums : Kind → List ℤ) → card.Built o s nums → Counted s nums → IsSome o
+built None s nums b all = absurd (b all)
+built (Some x) s nums b all = refl
+
 module _ (y : Contents) (g a : Grid) (x : Numbers) (e : (kind : Kind) → numbers y kind ≡ job_numbers g a x kind) where
   as_ropes : y.sizes.ropes ≡ height_of g
   as_ropes = let h = e Head in cc
@@ -78,8 +81,11 @@ module _ (y : Contents) (g a : Grid) (x : Numbers) (e : (kind : Kind) → number
     is_written : w ≡ Ok (bytes_needed y)
     is_written = wrote ∙ ap (λ (b : Bool). cond b (Ok (bytes_needed y)) (Err (Short (bytes_needed y)))) has_room
 
-    pub used_is : (r : Result ℕ Refusal) (o : Option ℕ) (short : Refusal) → r ≡ ok_or o short → o ≡ result_ok w → r ≡ Ok (bytes_for g a)
-    used_is r o short e d = e ∙ ap (λ (p : Option ℕ). ok_or p short) (d ∙ ap result_ok is_written) ∙ ap Ok needed_is
+    pub can_write : IsOk w
+    can_write = subst (λ (v : Result ℕ Fault). IsOk v) (sym is_written) refl
+
+    pub used_is : (used : ℕ) → w ≡ Ok used → ◌≡◌ {A = Result ℕ Refusal} (Ok used) (Ok (bytes_for g a))
+    used_is used e = let h = is_written in let same : used ≡ bytes_needed y = cc in ap Ok (same ∙ needed_is)
 
     module _ (r : Result ℕ Refusal) (used : r ≡ Ok (bytes_for g a)) where
       pub answered : None ≡ open_fault g a x → r ≡ write_answer true g a x (length out)

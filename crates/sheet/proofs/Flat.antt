@@ -1,8 +1,6 @@
 -- A matrix row by row, gathered number by number.
-use Rattle.std.proofs.Common.{◌≡◌, ℕ, ◌+◌, ◌*◌, ◌/◌, ◌%◌, ◌<◌, List, map, length, get_or, ℤ, pos, sym, ap, ◌∙◌, arith}
-use Rattle.std.specs.List.{range_with_len}
-use Rattle.std.proofs.lemmas.Nat.{mul-add-lt, div-mul-add, mod-mul-add, div-add-mod', div_below, mod_below}
-use Rattle.std.proofs.lemmas.List.FromFn.{length-map-range_with_len, get_or-map-range_with_len}
+use Rattle.std.proofs.Common.{◌≡◌, ℕ, ◌+◌, ◌*◌, ◌/◌, ◌%◌, ◌<◌, List, length, get_or, ℤ, pos, sym, ap, ◌∙◌, arith}
+use Rattle.std.proofs.lemmas.Nat.{div-add-mod', div_below, mod_below}
 use Rattle.std.proofs.lemmas.List.{ext_get_or}
 use Rattle.duality.specs.Sums.{Matrix}
 use Rattle.reading.specs.Plain.{listed}
@@ -22,15 +20,3 @@ rows_from m n M xs some long same =
     ∙ listed_at m n M (q / n) (q % n) i j
     ∙ same (q / n) (q % n) i j
     ∙ ap (λ (k : ℕ). get_or xs k (pos 0)) (div-add-mod' q n))
-
--- number q stands in row q / n and column q % n
-pub rows_gathered : (m n : ℕ) (M : Matrix) → 0 < n → map (λ q. M (q / n) (q % n)) (range_with_len 0 (m * n)) ≡ listed m n M
-rows_gathered m n M some =
-    let f : ℕ → ℤ = λ q. M (q / n) (q % n) in
-    sym (rows_from m n M (map f (range_with_len 0 (m * n))) some (length-map-range_with_len f 0 (m * n))
-    (λ i j hi hj.
-    let within = mul-add-lt i n j m hi hj in
-    let less : i * n + j < m * n = omega arith in
-    sym (get_or-map-range_with_len f 0 (m * n) (i * n + j) (i * n + j) (pos 0) less (omega arith)
-    ∙ ap (λ (r : ℕ). M r ((i * n + j) % n)) (div-mul-add i n j hj)
-    ∙ ap (M i) (mod-mul-add i n j hj))))

@@ -5,9 +5,15 @@ use Rattle.std.proofs.lemmas.List.FromFn.{map-range_with_len_more}
 use Rattle.std.proofs.lemmas.List.{append_assoc, take_more}
 use Rattle.std.proofs.lemmas.Int.{ints, to_z-of_z}
 
-pub by_more : (f : ℕ → ℤ) (q : ℕ) (xs ys : List ℤ) (y : ℤ) → xs ≡ map f (range_with_len 0 q) → ys ≡ xs ++ y ∷ [] → y ≡ f q → ys ≡ map f (range_with_len 0 (q + 1))
-by_more f q xs ys y e d v =
-    d ∙ ap (λ (t : List ℤ). t ++ y ∷ []) e ∙ ap (λ (z : ℤ). map f (range_with_len 0 q) ++ z ∷ []) v ∙ sym (map-range_with_len_more f 0 q q (omega arith))
+-- one number more of a row, behind a front
+pub by_more : (f : ℕ → ℤ) (front : List ℤ) (q : ℕ) (xs ys : List ℤ) (y : ℤ) → xs ≡ front ++ map f (range_with_len 0 q) → ys ≡ xs ++ y ∷ [] → y ≡ f q
+    → ys ≡ front ++ map f (range_with_len 0 (q + 1))
+by_more f front q xs ys y e d v =
+    d
+    ∙ ap (λ (t : List ℤ). t ++ y ∷ []) e
+    ∙ append_assoc front (map f (range_with_len 0 q)) (y ∷ [])
+    ∙ ap (λ (z : ℤ). front ++ (map f (range_with_len 0 q) ++ z ∷ [])) v
+    ∙ ap (λ (t : List ℤ). front ++ t) (sym (map-range_with_len_more f 0 q q (omega arith)))
 
 pub onto_more : (front xs ys zs : List ℤ) (i : ℕ) (y : ℤ) → ys ≡ front ++ take i xs → zs ≡ ys ++ y ∷ [] → y ≡ get_or xs i (pos 0) → i < length xs
     → zs ≡ front ++ take (i + 1) xs

@@ -20,10 +20,8 @@ fn open_card<'a>(
     ensures answer { (memory : Bool) × (viewed result ≡ load_answer memory card.now) }
     ensures sound { IfOk result (λ p. Sound (curvature_grid card.now) (rows_grid card.now) (lists_on card.now) (view grid_of grid_of p)) }
 {
-    match read_job(heap, card) {
-        Ok(job) => Plan::open(heap, job.g, job.a, &job.lists.lists()),
-        Err(refusal) => Err(refusal),
-    }
+    let job = read_job(heap, card)?;
+    Plan::open(heap, job.g, job.a, &job.lists.lists())
 }
 
 /// Opens a plan from a card, whose tables are read in place, or refuses: with the card's first fault, with what opening refuses, or for want of memory.

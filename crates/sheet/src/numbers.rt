@@ -11,10 +11,7 @@ use table::Table;
 fn number_at<T: Table>(t: &T, i: usize, j: usize) -> i32
     ensures { result ≡ matrix_of (T.Table.meant t.now) i j }
 {
-    match t.place(i, j) {
-        Some(x) => x as i32,
-        None => 0,
-    }
+    t.place(i, j).unwrap_or(0) as i32
 }
 
 /// The numbers of a table of these sizes, row by row.
@@ -25,14 +22,15 @@ pub(crate) fn table_numbers<T: Table>(
     columns: usize,
 ) -> Result<Vec<i32>, AllocError>
     requires rows { rows ≤ 64 }
-    requires some { 0 < columns }
     requires columns { columns ≤ 64 }
     ensures { IfOk result (λ v. v.items ≡ listed rows columns (matrix_of (T.Table.meant t.now))) }
 {
     let count = rows * columns;
     let mut numbers = Vec::with_capacity(heap, count)?;
-    for q in 0..count {
-        numbers.push(number_at(t, q / columns, q % columns))?;
+    for i in 0..rows {
+        for j in 0..columns {
+            numbers.push(number_at(t, i, j))?;
+        }
     }
     Ok(numbers)
 }
@@ -42,8 +40,8 @@ fn push_numbers(numbers: &mut Vec<i32>, xs: &[i64]) -> Result<(), AllocError>
     requires { Near 536870912 xs.now }
     ensures { OnOk result (numbers.new.items ≡ numbers.old.items ++ xs.now) }
 {
-    for i in 0..xs.len() {
-        numbers.push(xs[i] as i32)?;
+    for x in xs {
+        numbers.push(*x as i32)?;
     }
     Ok(())
 }

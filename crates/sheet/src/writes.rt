@@ -21,10 +21,7 @@ fn sizes_of<G: Table, A: Table>(g: &G, a: &A, lists: &Lists) -> Sizes
     ensures ropes { result.ropes ≡ height_of (G.Table.meant g.now) }
     ensures rows { result.rows ≡ height_of (A.Table.meant a.now) }
 {
-    match Sizes::new(g.height() as u16, a.height() as u16) {
-        Some(sizes) => sizes,
-        None => unreachable(),
-    }
+    Sizes::new(g.height() as u16, a.height() as u16).unwrap()
 }
 
 /// The contents of the card of a job that opens.
@@ -48,10 +45,7 @@ fn contents_of<G: Table, A: Table>(
     let bounds = list_numbers(heap, lists.l, lists.u)?;
     let limits = list_numbers(heap, lists.lo, lists.hi)?;
     let slip = list_numbers(heap, lists.slip, &[])?;
-    match Contents::new(sizes, curvature, rows, costs, bounds, limits, slip) {
-        Some(contents) => Ok(contents),
-        None => unreachable(),
-    }
+    Ok(Contents::new(sizes, curvature, rows, costs, bounds, limits, slip).unwrap())
 }
 
 /// Writes the card of a job, and answers how many bytes it has; the bytes past it stay.
@@ -76,12 +70,11 @@ pub fn write<G: Table, A: Table>(
     }
     let sizes = sizes_of(g, a, lists);
     let needed = sizes.card_bytes();
-    let short = Refusal::Card {
-        fault: Fault::Short { needed },
-    };
     if out.len() < needed {
-        return Err(short);
+        return Err(Refusal::Card {
+            fault: Fault::Short { needed },
+        });
     }
     let contents = contents_of(heap, sizes, g, a, lists)?;
-    contents.write(out).ok().ok_or(short)
+    Ok(contents.write(out).unwrap())
 }

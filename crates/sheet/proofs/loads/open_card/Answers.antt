@@ -1,18 +1,21 @@
+use Rattle.std.proofs.lemmas.Result.{err_from_is_err_and}
 use Rattle.card.specs.Grids.{grid_of}
 use Rattle.opening.specs.Opening.{numbers_of}
 use Rattle.sheet.specs.Reading.{Job, lists_of}
 use Rattle.sheet.proofs.Opening.{loaded, loaded_sound, not_read}
 use Rattle.sheet.proofs.loads.open_card.Goals as goal
 
-pub returns-in-Ok : goal.returns-in-Ok
-returns-in-Ok c =
+pub returns : goal.returns
+returns c =
     let card = c.args.card.now in
-    let job = c.in-Ok.job in
+    let job = c.in_ok-job.job in
     let j : Job = record { g = grid_of job.g; a = grid_of job.a; x = lists_of job.lists } in
     record {
-      answer = loaded card j c.in-Ok.ensures (numbers_of c.lists.result) c.lists.ensures c.open.result c.open.ensures;
-      sound = loaded_sound card j c.in-Ok.ensures (numbers_of c.lists.result) c.lists.ensures c.open.result c.open.ensures;
+      answer = loaded card j c.in_ok-job.ensures (numbers_of c.lists.result) c.lists.ensures c.open.result c.open.ensures;
+      sound = loaded_sound card j c.in_ok-job.ensures (numbers_of c.lists.result) c.lists.ensures c.open.result c.open.ensures;
     }
 
-pub returns-in-Err : goal.returns-in-Err
-returns-in-Err c = record { answer = not_read c.args.card.now c.in-Err.refusal c.in-Err.ensures; sound = tt }
+pub returns-in_err-job-clause-answer : goal.returns-in_err-job-clause-answer
+returns-in_err-job-clause-answer c =
+    let p = err_from_is_err_and c.from_residual.result c.from_residual.ensures.1 in
+    rw (p.1, p.2) (not_read c.args.card.now c.in_err-job.field-0.0 c.in_err-job.ensures)

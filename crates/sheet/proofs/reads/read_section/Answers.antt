@@ -1,4 +1,4 @@
-use Rattle.std.proofs.Common.{◌≡◌, ℕ, ◌+◌, ◌*◌, map, ℤ, pos, vec_items, Option, unwrap_or, ap, ◌∙◌, arith, w32, w64, SFits, to_z, of_z, rules}
+use Rattle.std.proofs.Common.{◌≡◌, ℕ, ◌+◌, ◌*◌, [], map, ℤ, pos, vec_items, Option, unwrap_or, ap, ◌∙◌, arith, w32, w64, SFits, to_z, of_z, rules}
 use Rattle.std.specs.List.{range_with_len}
 use Rattle.block.specs.Bytes.{number_at}
 use Rattle.section.specs.Layout.{count_of}
@@ -13,7 +13,7 @@ loop-q-init c = c.in_ok-numbers.ensures.items
 pub loop-q-preserved : goal.loop-q-preserved
 loop-q-preserved c =
     let f : SFits w32 c.unwrap_or-number.result = search rules in
-    by_more (λ q. unwrap_or (number_at c.args.card.now (c.first.result * 512 + spot_of q)) (pos 0)) c.loop-q.q (vec_items c.loop-q.numbers) (vec_items c.push.new.self)
+    by_more (λ q. unwrap_or (number_at c.args.card.now (c.first.result * 512 + spot_of q)) (pos 0)) [] c.loop-q.q (vec_items c.loop-q.numbers) (vec_items c.push.new.self)
     (to_z w64 (of_z w64 (to_z w32 (of_z w32 c.unwrap_or-number.result))))
     c.loop-q.invariant c.in_ok-push.ensures.items
     (wide_back c.unwrap_or-number.result f

@@ -1,10 +1,10 @@
 use Rattle.opening.specs.Opening.{numbers_of}
-use Rattle.sheet.proofs.Filling.{counted}
+use Rattle.sheet.proofs.Filling.{built, counted}
 use Rattle.sheet.proofs.writes.contents_of.Goals as goal
 
-pub unreachable-requires : goal.unreachable-requires
-unreachable-requires g c =
-    c.in-None.ensures
+pub unwrap-requires : goal.unwrap-requires
+unwrap-requires g c =
+    built c.new.result c.args.sizes _ c.new.ensures
     (counted c.args.sizes c.ropes-n.result c.rows-m.result (g.G.Table.meant c.args.g.now) (g.A.Table.meant c.args.a.now) (numbers_of c.args.lists.now) _ _ _ _ _ _
     c.requires.fits c.requires.ropes c.requires.rows c.ropes-n.ensures c.rows-m.ensures
     c.in_ok-curvature.ensures c.in_ok-rows.ensures c.in_ok-costs.ensures
