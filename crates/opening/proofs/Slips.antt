@@ -1,7 +1,9 @@
 -- The sums of the slip's test: how large they are, and a loop's step.
-use Rattle.std.proofs.Common.{◌≡◌, ℕ, ◌+◌, ◌*◌, ◌^◌, ◌<◌, ◌≤◌, eqb, List, ℤ, pos, ◌+ℤ◌, ◌-ℤ◌, ◌*ℤ◌, neg_ℤ, nat_abs, sym, ap, ◌∙◌, le_refl, mul-le-mul, arith, w64, SFits}
+use Rattle.std.proofs.Common.{◌≡◌, ℕ, ◌+◌, ◌*◌, ◌^◌, ◌<◌, ◌≤◌, eqb, List, ℤ, pos, ◌+ℤ◌, ◌-ℤ◌, ◌*ℤ◌, neg_ℤ, nat_abs, sym, ap, ◌∙◌, ◌-◌, length, drop, ◌++◌, get_or, ⊎_elim, suc, suc-mul, le_refl, mul-le-mul, arith, w64, SFits}
 use Rattle.std.proofs.lemmas.Int.{to_z-of_z}
-use Rattle.std.proofs.lemmas.Bool.{cond_both}
+use Rattle.std.proofs.lemmas.Bool.{cases_lt, cond_both}
+use Rattle.std.proofs.lemmas.List.{length-drop, length-append, get_or_append_left, get_or-drop, drop-drop}
+use Rattle.std.proofs.Math.Seq.{drop-append_seam}
 use Rattle.duality.specs.Convex.{remainder, beside}
 use Rattle.duality.specs.Lists.{by_rows}
 use Rattle.duality.specs.Sums.{Matrix, ∑, absℤ}
@@ -40,22 +42,63 @@ module _ (n : ℕ) (slip : List ℤ) (h : SlipNumbers n slip) where
   pub gram_small : (i j : ℕ) → nat_abs (gram_of n L i j) ≤ 2 ^ 38
   gram_small i j = part_small i j n (le_refl n)
 
-  -- one product more, as the code sums them up
-  module _ (i j k : ℕ) (l : k < n) (s : ℤ) (e : s ≡ ∑ k (term i j)) where
-    pub product_fits : SFits w64 (back (L k i) *ℤ back (L k j))
-    product_fits = rw (place_back k i, place_back k j) (fits (2 ^ 34) (term i j k) (term_small i j k) (omega arith))
+  left : (k : ℕ) (rest : List ℤ) → rest ≡ drop (k * n) slip → length rest ≡ n * n - k * n
+  left k rest at = ap length at ∙ length-drop (k * n) slip ∙ ap (λ (m : ℕ). m - k * n) h.long
 
-    product_back : back (back (L k i) *ℤ back (L k j)) ≡ term i j k
-    product_back = rw (place_back k i, place_back k j) (back_is (2 ^ 34) (term i j k) (term_small i j k) (omega arith))
+  -- where less than a row is left of the slip, every row was cut off
+  pub rows_end : (k : ℕ) (rest : List ℤ) → rest ≡ drop (k * n) slip → length rest < n → k ≤ n → k ≡ n
+  rows_end k rest at short few =
+      ⊎_elim
+      (λ (lt : k < n).
+      let p : suc k * n ≤ n * n = mul-le-mul {n₁ = suc k} {m₁ = n} {n₂ = n} {m₂ = n} (omega arith) (le_refl n) in
+      let a : length rest ≡ n * n - k * n = left k rest at in
+      absurd (omega (arith, suc-mul k n)))
+      (λ (le : n ≤ k). omega arith)
+      (cases_lt k n)
 
-    gram_whole : s +ℤ back (back (L k i) *ℤ back (L k j)) ≡ ∑ (k + 1) (term i j)
-    gram_whole = rw (product_back, e) (sym (∑-more k (term i j)))
+  -- one row more of the slip, as it is cut off its front
+  module _ (i j k : ℕ) (li : i < n) (lj : j < n) (r rest next : List ℤ) (at : rest ≡ drop (k * n) slip) (cut : rest ≡ r ++ next) (long : length r ≡ n) where
+    pub row_inside : k < n
+    row_inside =
+        ⊎_elim
+        (λ (lt : k < n). lt)
+        (λ (le : n ≤ k).
+        let p : n * n ≤ k * n = mul-le-mul {n₁ = n} {m₁ = n} {n₂ = k} {m₂ = n} le (le_refl n) in
+        let a : length rest ≡ n * n - k * n = left k rest at in
+        let b : length rest ≡ length r + length next = ap length cut ∙ length-append r next in
+        absurd (omega arith))
+        (cases_lt k n)
 
-    pub gram_fits : SFits w64 (s +ℤ back (back (L k i) *ℤ back (L k j)))
-    gram_fits = rw gram_whole (fits (2 ^ 38) (∑ (k + 1) (term i j)) (part_small i j (k + 1) (omega arith)) (omega arith))
+    pub row_past : next ≡ drop ((k + 1) * n) slip
+    row_past =
+        let e : drop (length r) rest ≡ next = ap (drop (length r)) cut ∙ drop-append_seam r next in
+        let f : drop n (drop (k * n) slip) ≡ drop (k * n + n) slip = drop-drop n (k * n) slip in
+        let m : k * n + n ≡ (k + 1) * n = omega arith in
+        sym e ∙ ap (λ (c : ℕ). drop c rest) long ∙ ap (drop n) at ∙ f ∙ ap (λ (c : ℕ). drop c slip) m
 
-    pub gram_more : back (s +ℤ back (back (L k i) *ℤ back (L k j))) ≡ ∑ (k + 1) (term i j)
-    gram_more = to_z-of_z w64 _ gram_fits ∙ gram_whole
+    place_of_row : (c : ℕ) → c < n → get_or r c (pos 0) ≡ L k c
+    place_of_row c l =
+        let inside : c < length r = omega arith in
+        sym (get_or_append_left r next (pos 0) c inside) ∙ ap (λ (xs : List ℤ). get_or xs c (pos 0)) (sym cut ∙ at) ∙ get_or-drop (k * n) slip c (pos 0)
+
+    place_of_row_back : (c : ℕ) → c < n → back (get_or r c (pos 0)) ≡ L k c
+    place_of_row_back c l = ap back (place_of_row c l) ∙ place_back k c
+
+    pub product_fits : SFits w64 (back (get_or r i (pos 0)) *ℤ back (get_or r j (pos 0)))
+    product_fits = rw (place_of_row_back i li, place_of_row_back j lj) (fits (2 ^ 34) (term i j k) (term_small i j k) (omega arith))
+
+    product_back : back (back (get_or r i (pos 0)) *ℤ back (get_or r j (pos 0))) ≡ term i j k
+    product_back = rw (place_of_row_back i li, place_of_row_back j lj) (back_is (2 ^ 34) (term i j k) (term_small i j k) (omega arith))
+
+    module _ (s : ℤ) (e : s ≡ ∑ k (term i j)) where
+      gram_whole : s +ℤ back (back (get_or r i (pos 0)) *ℤ back (get_or r j (pos 0))) ≡ ∑ (k + 1) (term i j)
+      gram_whole = rw (product_back, e) (sym (∑-more k (term i j)))
+
+      pub gram_fits : SFits w64 (s +ℤ back (back (get_or r i (pos 0)) *ℤ back (get_or r j (pos 0))))
+      gram_fits = let l : k < n = row_inside in rw gram_whole (fits (2 ^ 38) (∑ (k + 1) (term i j)) (part_small i j (k + 1) (omega arith)) (omega arith))
+
+      pub gram_more : back (s +ℤ back (back (get_or r i (pos 0)) *ℤ back (get_or r j (pos 0)))) ≡ ∑ (k + 1) (term i j)
+      gram_more = to_z-of_z w64 _ gram_fits ∙ gram_whole
 
   module _ (g : Grid) where
     abbrev R : Matrix

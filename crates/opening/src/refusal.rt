@@ -1,7 +1,7 @@
 //! Everything that a plan can refuse.
 ghost use Rattle.std.specs.Prelude.{◌≡◌};
 ghost use Rattle.opening.specs.declared.refusal.Refusal.TheVariants.{Memory, Card};
-ghost use Rattle.opening.specs.Refusals.{list_number, at_plan, at_table, notice_of, ToldApart};
+ghost use Rattle.opening.specs.Refusals.{list_number, notice_of, ToldApart};
 
 use block::{Fault, Layer, Notice};
 use std::alloc::AllocError;
@@ -68,23 +68,12 @@ impl From<List> for usize {
     }
 }
 
-fn at_table(number: u8, first: usize, second: usize) -> Notice
-    ensures { result ≡ at_table number first second }
+fn told(number: u8, layer: Layer, first: usize, second: usize) -> Notice
+    ensures { result ≡ record { number = number; layer = layer; first = first; second = second } }
 {
     Notice {
         number,
-        layer: Layer::Table,
-        first,
-        second,
-    }
-}
-
-fn at_plan(number: u8, first: usize, second: usize) -> Notice
-    ensures { result ≡ at_plan number first second }
-{
-    Notice {
-        number,
-        layer: Layer::Plan,
+        layer,
         first,
         second,
     }
@@ -97,21 +86,21 @@ impl Refusal {
         ensures apart { ToldApart self.now result }
     {
         match *self {
-            Refusal::Memory => at_plan(0, 0, 0),
+            Refusal::Memory => told(0, Layer::Plan, 0, 0),
             Refusal::Card { fault } => fault.notice(),
-            Refusal::Sizes { height, width } => at_table(10, height, width),
-            Refusal::Place { row, column } => at_table(11, row, column),
-            Refusal::Asymmetric { row, column } => at_table(12, row, column),
-            Refusal::Length { list } => at_plan(13, list.into(), 0),
-            Refusal::Limit { list, index } => at_plan(14, list.into(), index),
-            Refusal::Slip { row } => at_plan(15, row, 0),
-            Refusal::OfferLength { needed } => at_plan(20, needed, 0),
-            Refusal::OfferLimit { index } => at_plan(21, index, 0),
-            Refusal::Bound { rope } => at_plan(22, rope, 0),
-            Refusal::Row { row } => at_plan(23, row, 0),
-            Refusal::NoProof => at_plan(24, 0, 0),
-            Refusal::NoSuch { index } => at_plan(30, index, 0),
-            Refusal::Amendment { index } => at_plan(31, index, 0),
+            Refusal::Sizes { height, width } => told(10, Layer::Table, height, width),
+            Refusal::Place { row, column } => told(11, Layer::Table, row, column),
+            Refusal::Asymmetric { row, column } => told(12, Layer::Table, row, column),
+            Refusal::Length { list } => told(13, Layer::Plan, list.into(), 0),
+            Refusal::Limit { list, index } => told(14, Layer::Plan, list.into(), index),
+            Refusal::Slip { row } => told(15, Layer::Plan, row, 0),
+            Refusal::OfferLength { needed } => told(20, Layer::Plan, needed, 0),
+            Refusal::OfferLimit { index } => told(21, Layer::Plan, index, 0),
+            Refusal::Bound { rope } => told(22, Layer::Plan, rope, 0),
+            Refusal::Row { row } => told(23, Layer::Plan, row, 0),
+            Refusal::NoProof => told(24, Layer::Plan, 0, 0),
+            Refusal::NoSuch { index } => told(30, Layer::Plan, index, 0),
+            Refusal::Amendment { index } => told(31, Layer::Plan, index, 0),
         }
     }
 }

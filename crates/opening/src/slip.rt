@@ -36,8 +36,8 @@ impl<'a, G: Table> Slip<'a, G> {
         ensures { result ≡ gram_of self.now.ropes (by_rows self.now.ropes self.now.numbers.now) i j }
     {
         let mut sum = 0i64;
-        for k in 0..self.ropes {
-            sum += self.numbers[k * self.ropes + i] * self.numbers[k * self.ropes + j];
+        for row in self.numbers.chunks_exact(self.ropes) {
+            sum += row[i] * row[j];
         }
         sum
     }
