@@ -7,3 +7,4 @@ pub mod Offers
 pub mod ProblemOffers
 pub mod Steps
 pub mod Runs
+pub mod Ends

@@ -1,4 +1,6 @@
 //! What the working set is made of.
+ghost use Rattle.std.specs.Prelude.{Some};
+ghost use Rattle.exchange.specs.Ends.{name_of};
 
 use std::fmt;
 
@@ -82,6 +84,8 @@ pub enum End {
 }
 
 impl fmt::Display for End {
+    ghost output = { λ e. Some (name_of e) };
+
     fn fmt<W: fmt::Write>(&self, f: &mut fmt::Formatter<W>) -> fmt::Result {
         f.write_str(match self {
             End::Done => "done",
