@@ -36,6 +36,7 @@ fn numbers_in<T: Table>(
     ensures { IfOk result (λ v. v.items ≡ listed rows columns (matrix_of (T.Table.meant table.now))) }
 {
     let mut list = Vec::with_capacity(heap, rows * columns)?;
+    // A table is asked by number, so its rows are counted.
     for i in 0..rows {
         push_row(&mut list, table, i, columns)?;
     }
