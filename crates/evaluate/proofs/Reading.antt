@@ -68,10 +68,6 @@ module _ (t : Terms) where
 pub many_at : (n m limit : ℕ) (z : List ℤ) → n ≡ m → many_within n limit z ≡ true → many_within m limit z ≡ true
 many_at n m limit z e p = ap (λ (k : ℕ). many_within k limit z) (sym e) ∙ p
 
-pub given_test : {X : Type 0} (b : Bool) (v w : X) → Some w ≡ answer b v → b ≡ true
-given_test true v w e = refl
-given_test false v w e = let z : ◌≡◌ {A = ℕ} 0 1 = cc in absurd (omega arith)
-
 pub given_value : {X : Type 0} (b : Bool) (v w : X) → Some w ≡ answer b v → w ≡ v
 given_value true v w e = cc
 given_value false v w e = let z : ◌≡◌ {A = ℕ} 0 1 = cc in absurd (omega arith)

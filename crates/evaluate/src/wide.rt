@@ -20,6 +20,8 @@ pub(crate) fn furthest(w: i64, x: i64, low: i64, high: i64) -> i128
     wide_product(w, x - low).max(wide_product(w, x - high))
 }
 
+// The most and the least stay two functions: they differ in what they compute, not in a type or a constant.
+
 /// The most that w v can be while v runs from low to high.
 pub(crate) fn highest(w: i64, low: i64, high: i64) -> i128
     ensures { result ≡ highest_of w low high }

@@ -1,10 +1,10 @@
 //! Each place of a table is asked once.
-ghost use Rattle.std.specs.Prelude.{◌≡◌, ◌≤◌, ◌++◌, map, IfOk, Some, OnOk};
+ghost use Rattle.std.specs.Prelude.{◌≡◌, ◌≤◌, ◌++◌, map, IfOk, OnOk};
 ghost use Rattle.std.specs.List.{range_with_len};
 ghost use Rattle.table.specs.Grid.{matrix_of};
 ghost use Rattle.terms.specs.Numbers.{numbers_of as terms_of};
 ghost use Rattle.evaluate.specs.Stated.{problem_of as stated};
-ghost use Rattle.job.specs.Numbers.{fitting, numbers, numbers_of, problem_of};
+ghost use Rattle.job.specs.Numbers.{numbers_of, problem_of};
 ghost use Rattle.reading.specs.Plain.{listed, plain, Agrees, SamePoints};
 
 use job::Job;
@@ -36,26 +36,24 @@ fn numbers_in<T: Table>(
     ensures { IfOk result (λ v. v.items ≡ listed rows columns (matrix_of (T.Table.meant table.now))) }
 {
     let mut list = Vec::with_capacity(heap, rows * columns)?;
+    // A table is asked by number, so its rows are counted.
     for i in 0..rows {
         push_row(&mut list, table, i, columns)?;
     }
     Ok(list)
 }
 
-fn job_of(
-    g: Vec<i64>,
-    c: Vec<i64>,
-    a: Vec<i64>,
-    lo: Vec<i64>,
-    hi: Vec<i64>,
-    l: Vec<i64>,
-    u: Vec<i64>,
-) -> Job
-    requires { fitting (numbers g.items c.items a.items lo.items hi.items l.items u.items)
-        ≡ Some (numbers g.items c.items a.items lo.items hi.items l.items u.items) }
-    ensures { numbers_of result ≡ numbers g.items c.items a.items lo.items hi.items l.items u.items }
+/// The same terms in lists of their own.
+fn copy_of(heap: Global, terms: &Terms) -> Result<Terms, AllocError>
+    ensures { IfOk result (λ t. terms_of t ≡ terms_of terms.now) }
 {
-    Job::new(g, c, a, lo, hi, l, u).unwrap()
+    Ok(Terms {
+        c: Vec::from_slice(heap, &terms.c)?,
+        l: Vec::from_slice(heap, &terms.l)?,
+        u: Vec::from_slice(heap, &terms.u)?,
+        lo: Vec::from_slice(heap, &terms.lo)?,
+        hi: Vec::from_slice(heap, &terms.hi)?,
+    })
 }
 
 /// The job that two tables and the terms state: G read row by row, A rope by rope, with 0 for a blank, and the terms' lists as they stand.
@@ -76,10 +74,5 @@ pub fn read_job<G: Table, A: Table>(
     let matrix = numbers_in(heap, g, ropes, ropes)?;
     let by_ropes = Flip::over(a);
     let weights = numbers_in(heap, &by_ropes, ropes, rows)?;
-    let c = Vec::from_slice(heap, &terms.c)?;
-    let lo = Vec::from_slice(heap, &terms.lo)?;
-    let hi = Vec::from_slice(heap, &terms.hi)?;
-    let l = Vec::from_slice(heap, &terms.l)?;
-    let u = Vec::from_slice(heap, &terms.u)?;
-    Ok(job_of(matrix, c, weights, lo, hi, l, u))
+    Ok(Job::of(matrix, weights, copy_of(heap, terms)?).unwrap())
 }
