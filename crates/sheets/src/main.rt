@@ -6,11 +6,14 @@
 
 ghost use Rattle.std.specs.Prelude.{◌≤◌, length, IfOk};
 
+use lines::ROOM;
 use opening::Refusal;
 use print::{print_plan, print_refusal};
 use sheet::load;
 use std::alloc::Global;
 use std::io::{Read, Write};
+use std::iter;
+use wire::{bits, run, word};
 
 /// Steps of the exchange.
 const STEPS: u64 = 1_000;
@@ -21,36 +24,10 @@ const MOVES: u64 = 100_000;
 /// The cards that one run may have.
 const CARDS: usize = 10_000;
 
-#[derive(Drop)]
-struct Input<'a> {
-    bytes: &'a [u8],
-    at: usize,
-}
-
-impl<'a> Input<'a> {
-    fn byte(&mut self) -> Option<usize> {
-        let b = self.bytes.get(self.at).copied()?;
-        self.at = self.at.saturating_add(1);
-        Some(b as usize)
-    }
-
-    /// The next `len` bytes, or those that are left.
-    fn run(&mut self, len: usize) -> &'a [u8] {
-        let from = self.at.min(self.bytes.len());
-        let to = from.saturating_add(len).min(self.bytes.len());
-        self.at = to;
-        if from <= to {
-            &self.bytes[from..to]
-        } else {
-            &self.bytes[0..0]
-        }
-    }
-
-    fn card(&mut self) -> Option<&'a [u8]> {
-        let low = self.byte()?;
-        let high = self.byte()?;
-        Some(self.run(low.saturating_add(high.saturating_mul(256))))
-    }
+/// The next card, its length in two bytes before it.
+fn card<'a>(input: &mut &'a [u8]) -> Option<&'a [u8]> {
+    let len = word(input)?;
+    Some(run(input, usize::from(len)))
 }
 
 /// How many bytes a sheet has, and the smallest pivot behind it.
@@ -73,44 +50,33 @@ fn solve_card(heap: Global, card: &[u8], out: &mut [u8]) -> Result<Solved, Refus
     })
 }
 
-fn bits(x: f64) -> u64 {
-    if x.is_nan() { 0 } else { x.to_bits() }
-}
-
 fn show_card(rt: &HostRuntime, card: &[u8]) -> anyhow::Result<()> {
-    let mut text = [0u8; 320];
+    let mut text = [0u8; ROOM];
     match solve_card(rt.alloc(), card, &mut text) {
         Ok(solved) => {
-            let bytes = solved.bytes;
-            rt.stdout().write_all(&text[0..bytes])?;
+            rt.stdout().write_all(&text[..solved.bytes])?;
             let pivot = bits(solved.pivot);
             println!(rt; "pivot {pivot}")?;
         }
         Err(refusal) => {
             if let Ok(bytes) = print_refusal(&refusal, &mut text) {
-                rt.stdout().write_all(&text[0..bytes])?;
+                rt.stdout().write_all(&text[..bytes])?;
             }
         }
     }
     Ok(())
 }
 
-fn run(rt: &HostRuntime) -> anyhow::Result<()> {
+fn run_cards(rt: &HostRuntime) -> anyhow::Result<()> {
     let mut bytes = Vec::new(rt.alloc());
     rt.stdin().read_to_end(&mut bytes)?;
-    let mut input = Input {
-        bytes: bytes.as_slice(),
-        at: 0,
-    };
-    for _ in 0..CARDS {
-        let Some(card) = input.card() else {
-            break;
-        };
+    let mut input = bytes.as_slice();
+    for card in iter::from_fn(|| card(&mut input)).take(CARDS) {
         show_card(rt, card)?;
     }
     Ok(())
 }
 
 fn main(rt: HostRuntime) -> anyhow::Result<()> {
-    run(&rt)
+    run_cards(&rt)
 }

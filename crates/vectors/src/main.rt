@@ -15,6 +15,7 @@ use std::io;
 use std::io::{BufRead, BufReader};
 use std::num::nearest_i64_to_f64;
 use walk::{End, Walked, walk};
+use wire::bits;
 
 fn numbers(heap: Global, line: &str) -> anyhow::Result<Vec<i64>> {
     let mut numbers = Vec::new(heap);
@@ -31,14 +32,9 @@ struct Line<'a> {
 }
 
 impl<'a> Line<'a> {
+    /// The next number, or 0 where none is left.
     fn number(&mut self) -> i64 {
-        match self.left.split_first() {
-            Some((first, rest)) => {
-                self.left = rest;
-                *first
-            }
-            None => 0,
-        }
+        self.left.split_off_first().copied().unwrap_or(0)
     }
 
     fn size(&mut self) -> usize {
@@ -46,9 +42,9 @@ impl<'a> Line<'a> {
     }
 
     fn list(&mut self, heap: Global, count: usize) -> Result<Vec<i64>, AllocError> {
-        let (list, rest) = self.left.split_at(count.min(self.left.len()));
-        self.left = rest;
-        Vec::from_slice(heap, list)
+        let len = count.min(self.left.len());
+        let list = self.left.split_off(..len);
+        Vec::from_slice(heap, list.unwrap_or_default())
     }
 }
 
@@ -77,19 +73,15 @@ fn scaled(m: i64, e: i64) -> f64 {
     x
 }
 
-fn bits(x: f64) -> u64 {
-    if x.is_nan() { 0 } else { x.to_bits() }
-}
-
 fn print_solution(rt: &HostRuntime, n: usize, solution: &Solution) -> io::Result<()> {
     let smallest = bits(solution.smallest);
     let Some(unknowns) = solution.unknowns else {
         return println!(rt; "stuck {smallest}");
     };
     print!(rt; "solved {smallest}")?;
-    for k in 0..n.min(32) {
-        let bits = bits(unknowns[k]);
-        let whole = nearest(unknowns[k]);
+    for x in unknowns.into_iter().take(n) {
+        let bits = bits(x);
+        let whole = nearest(x);
         print!(rt; " {bits} {whole}")?;
     }
     println!(rt; "")
@@ -99,11 +91,11 @@ fn run_system(rt: &HostRuntime, line: &mut Line) -> io::Result<()> {
     let n = line.size();
     let mut lines = [[0.0; 33]; 32];
     if n <= 32 {
-        for i in 0..n {
-            for j in 0..n + 1 {
+        for row in lines.iter_mut().take(n) {
+            for x in row.iter_mut().take(n + 1) {
                 let m = line.number();
                 let e = line.number();
-                lines[i][j] = scaled(m, e);
+                *x = scaled(m, e);
             }
         }
     }
@@ -131,10 +123,7 @@ fn read_case(heap: Global, line: &mut Line) -> Result<Option<Case>, AllocError> 
     let l = line.list(heap, n)?;
     let u = line.list(heap, n)?;
     let point = line.list(heap, n)?;
-    match Job::new(g, c, a, lo, hi, l, u) {
-        Some(job) => Ok(Some(Case { job, budget, point })),
-        None => Ok(None),
-    }
+    Ok(Job::new(g, c, a, lo, hi, l, u).map(|job| Case { job, budget, point }))
 }
 
 fn run_walk(rt: &HostRuntime, heap: Global, mut case: Case) -> io::Result<()> {
@@ -159,10 +148,10 @@ fn print_report(rt: &HostRuntime, report: &Report) -> io::Result<()> {
 
 fn print_offer(rt: &HostRuntime, job: &Job, offer: &Offer) -> io::Result<()> {
     print!(rt; " ;")?;
-    for z in offer.point[0..job.ropes.min(16)].iter() {
+    for z in offer.point.iter().take(job.ropes) {
         print!(rt; " {z}")?;
     }
-    for y in offer.multipliers[0..job.rows.min(32)].iter() {
+    for y in offer.multipliers.iter().take(job.rows) {
         print!(rt; " {y}")?;
     }
     Ok(())
@@ -184,20 +173,36 @@ fn run_exchange(rt: &HostRuntime, heap: Global, case: &Case) -> anyhow::Result<(
     Ok(())
 }
 
-fn run_case(rt: &HostRuntime, heap: Global, kind: i64, line: &mut Line) -> anyhow::Result<()> {
-    if kind == 1 {
-        run_system(rt, line)?;
-        return Ok(());
+/// What a line asks for.
+#[derive(Clone, Copy, PartialEq, Eq)]
+enum Kind {
+    Walk,
+    System,
+    Exchange,
+}
+
+/// The kind that a line's first number stands for; any but 0 and 1 stands for an exchange.
+impl From<i64> for Kind {
+    fn from(number: i64) -> Kind {
+        match number {
+            0 => Kind::Walk,
+            1 => Kind::System,
+            _ => Kind::Exchange,
+        }
+    }
+}
+
+fn run_line(rt: &HostRuntime, heap: Global, line: &mut Line) -> anyhow::Result<()> {
+    let kind = Kind::from(line.number());
+    if kind == Kind::System {
+        return Ok(run_system(rt, line)?);
     }
     let Some(case) = read_case(heap, line)? else {
-        println!(rt; "no job")?;
-        return Ok(());
+        return Ok(println!(rt; "no job")?);
     };
-    if kind == 0 {
-        run_walk(rt, heap, case)?;
-        Ok(())
-    } else {
-        run_exchange(rt, heap, &case)
+    match kind {
+        Kind::Walk => Ok(run_walk(rt, heap, case)?),
+        _ => run_exchange(rt, heap, &case),
     }
 }
 
@@ -209,8 +214,7 @@ fn run(rt: &HostRuntime) -> anyhow::Result<()> {
         let mut line = Line {
             left: numbers.as_slice(),
         };
-        let kind = line.number();
-        run_case(rt, heap, kind, &mut line)?;
+        run_line(rt, heap, &mut line)?;
     }
     Ok(())
 }
