@@ -89,6 +89,7 @@ impl<G: Table, A: Table> Plan<G, A> {
             ≡ last_found (view G.Table.meant A.Table.meant self.old).numbers at.old (exchanged (problem_of job.now) budget).offers }
         ensures inside { is_in_bounds (problem_of job.now) at.new ≡ true }
     {
+        // exchange::run has this loop too: with a closure it would have to require that it may be called, and no public function requires anything.
         for k in 0..budget {
             let step = exchange.step(job);
             self.offer_step(step, at);
