@@ -1,18 +1,34 @@
 -- One pass over the rows: the ticks outside once a rope has moved.
-use Rattle.std.proofs.Common.{◌≡◌, ℕ, ◌+◌, ◌*◌, ◌^◌, ◌<◌, ◌≤◌, get_or, ℤ, ◌+ℤ◌, ◌*ℤ◌, nat_abs, vec_items, vec_len, ap, ◌∙◌, le_refl, mul-le-mul, arith, lit<, w64, SFits}
+use Rattle.std.proofs.Common.{◌≡◌, ℕ, ◌+◌, ◌*◌, ◌^◌, ◌<◌, ◌≤◌, get_or, ℤ, pos, ◌+ℤ◌, ◌-ℤ◌, ◌*ℤ◌, nat_abs, vec_items, vec_len, ap, ◌∙◌, le_refl, mul-le-mul, arith, lit<, w64, SFits}
+use Rattle.std.specs.Int.{int_max}
+use Rattle.std.proofs.lemmas.Int.{to_z-of_z}
 use Rattle.duality.specs.Lists.{places}
 use Rattle.duality.specs.Sums.{Vector, ∑}
 use Rattle.duality.proofs.Sums.{∑-more}
-use Rattle.duality.proofs.Sizes.{small_add, small_mul, small-∑}
+use Rattle.duality.proofs.Sizes.{small_add, small_sub, small_mul, small-∑}
 use Rattle.job.specs.Numbers.{problem_of}
 use Rattle.terms.specs.Ticks.{excess, Near}
 use Rattle.job.specs.declared.numbers.Job.{Job}
-use Rattle.job.proofs.Bits.{back, back_is, back_of, small_of, read_back}
+use Rattle.job.proofs.Bits.{back, fits, back_is, back_of, small_of, read_back}
 use Rattle.job.proofs.Outside.{excess_small}
 use Rattle.job.proofs.Reading.{a_small, lo_small, hi_small}
 use Rattle.walk.proofs.Raising.{product_fits, raised_fits, raised_is}
 use Rattle.walk.specs.Running.{Tame, outside_after}
 use Rattle.walk.specs.declared.room.Room.{Room}
+
+-- the larger of two differences and 0
+pub excess_is : (low high s m r : ℤ) → Near low high s → SFits w64 m → SFits w64 r →
+    m ≡ int_max (back (back low -ℤ back s)) (back (back s -ℤ back high)) → r ≡ int_max (pos 0) (back m) → back r ≡ excess low high s
+unfolding excess
+excess_is low high s m r near fm fr em er =
+    let fl : SFits w64 low = fits _ low near.low_near (omega arith) in
+    let fh : SFits w64 high = fits _ high near.high_near (omega arith) in
+    let fs : SFits w64 s = fits _ s near.sum_near (omega arith) in
+    let fu : SFits w64 (low -ℤ s) = fits _ (low -ℤ s) (small_sub 536870912 (2 ^ 54) low s near.low_near near.sum_near) (omega arith) in
+    let fa : SFits w64 (s -ℤ high) = fits _ (s -ℤ high) (small_sub (2 ^ 54) 536870912 s high near.sum_near near.high_near) (omega arith) in
+    let e : m ≡ int_max (low -ℤ s) (s -ℤ high) = simp to_z-of_z at em in
+    let d : r ≡ int_max (pos 0) m = simp to_z-of_z at er in
+    simp to_z-of_z (d ∙ ap (int_max (pos 0)) e)
 
 -- row i's part of the ticks outside once rope k has moved by d
 abbrev pub ticks : Job → Room → ℕ → ℤ → Vector

@@ -5,13 +5,13 @@ ghost use Rattle.duality.specs.Problem.{row_at};
 ghost use Rattle.job.specs.Numbers.{has_sizes, problem_of};
 ghost use Rattle.job.specs.Points.{gradient as gradient_of};
 ghost use Rattle.duality.specs.Tests.{many_within};
+ghost use Rattle.terms.specs.Ticks.{excess as excess_of, Near};
 ghost use Rattle.walk.specs.ProblemLowering.{lower as lower_of};
 ghost use Rattle.walk.specs.Running.{Lists, Sized, ropes_in, rows_in, Tracks, Tame, outside_after, gain_of, looks_lower, Raised, Shifted};
 
 use crate::moves::Shift;
 use job::Job;
 use std::alloc::{AllocError, Global};
-use terms::excess;
 
 /// What a walk needs of memory, taken before it: its running sums. It serves any number of walks, one after the other.
 #[derive(Drop)]
@@ -22,6 +22,17 @@ pub struct Room {
     pub(crate) slopes: Vec<i64>,
     /// The ticks outside all rows.
     pub(crate) outside: i64,
+}
+
+/// How many ticks s lies below low or above high. `terms::excess` holds to 64 bits at each difference: with it a try takes half as long again.
+fn excess(low: i64, high: i64, s: i64) -> i64
+    requires { Near low high s }
+    ensures { result ≡ excess_of low high s }
+{
+    let under = low - s;
+    let above = s - high;
+    let most = under.max(above);
+    0i64.max(most)
 }
 
 fn gain(slope: i64, curve: i64, d: i64) -> i64
