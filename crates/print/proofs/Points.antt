@@ -1,5 +1,5 @@
 -- The point that is shown has few numbers, and none too far.
-use Rattle.std.proofs.Common.{◌≡◌, ℕ, zero, suc, ◌≤◌, Bool, true, false, cond, eqb, leb, List, length, take, replicate, ℤ, pos, Some, None, Ok, Err, vec_items, vec_len, sym, refl, ap, ◌∙◌, arith}
+use Rattle.std.proofs.Common.{◌≡◌, ℕ, zero, suc, ◌-◌, ◌≤◌, Bool, true, false, cond, eqb, leb, List, length, take, replicate, ℤ, pos, Some, None, Ok, Err, Option, vec_len, sym, refl, ap, ◌∙◌, arith, vec_items}
 use Rattle.std.proofs.lemmas.List.{length-replicate, get_or-replicate, take-replicate}
 use Rattle.std.proofs.lemmas.Bool.{and_parts, and_from, eq-eqb, eqb-true, le-leb}
 use Rattle.duality.specs.Lists.{places}
@@ -15,7 +15,9 @@ use Rattle.calls.specs.States.{State}
 use Rattle.calls.specs.declared.answers.Report.{Report}
 use Rattle.calls.specs.declared.answers.Shown.{Shown}
 use Rattle.calls.specs.Steps.{unless, shown, show_answer, point_shown}
-use Rattle.plan.specs.View.{held_if, view}
+use Rattle.arrayvec.specs.ArrayVec.{ArrayVec}
+use Rattle.plan.specs.Inside.{held_within}
+use Rattle.plan.specs.View.{held, view}
 use Rattle.plan.specs.declared.state.Plan.{Plan}
 use Rattle.print.specs.Printing.{point_of, plan_text}
 
@@ -40,20 +42,21 @@ zeros_near n =
     (λ k l. ap (within 32768) (get_or-replicate n k (pos 0) (pos 0) (omega (arith, length-replicate n (pos 0))))))
 
 -- the point of a plan, where it is held, and else zeros
-shown_near : (refuted held : Bool) (y z : List ℤ) (n : ℕ) → many_within n 32768 z ≡ true
-    → many_within n 32768 (cond (eqb (length (replicate n (pos 0))) n) (point_shown (held_if refuted y) (held_if held z) (replicate n (pos 0))) (replicate n (pos 0))) ≡ true
-shown_near refuted held y z n e = by (eqb (length (replicate n (pos 0))) n) refuted held
+shown_near : (proof point : Option (ArrayVec ℤ)) (n : ℕ) → held_within n 32768 point ≡ true
+    → many_within n 32768 (cond (eqb (length (replicate n (pos 0))) n) (point_shown (held proof) (held point) (replicate n (pos 0))) (replicate n (pos 0))) ≡ true
+shown_near proof point n = by (eqb (length (replicate n (pos 0))) n) proof point
   where
-    by : (b r h : Bool) → many_within n 32768 (cond b (point_shown (held_if r y) (held_if h z) (replicate n (pos 0))) (replicate n (pos 0))) ≡ true
-    by true true h = zeros_near n
-    by true false true = e
-    by true false false = zeros_near n
-    by false r h = zeros_near n
+    by : (b : Bool) (r h : Option (ArrayVec ℤ)) → held_within n 32768 h ≡ true
+        → many_within n 32768 (cond b (point_shown (held r) (held h) (replicate n (pos 0))) (replicate n (pos 0))) ≡ true
+    by true (Some y) h e = zeros_near n
+    by true None (Some z) e = e
+    by true None None e = zeros_near n
+    by false r h e = zeros_near n
 
 pub shown_passes : {G A : Type 0} {ofG : Ghosts G} {ofA : Ghosts A} (mg : G → Grid) (ma : A → Grid) (p : Plan G A ofG ofA) (z : List ℤ) → z ≡ point_of (view mg ma p) → point_check z ≡ Ok tt
 shown_passes mg ma p z e =
     let n = vec_len p.terms.c in
-    point_passes n z p.terms.some.1 (ap (many_within n 32768) e ∙ shown_near p.refuted p.held (vec_items p.proof) (vec_items p.point) n p.pulls)
+    point_passes n z p.terms.some.1 (ap (many_within n 32768) e ∙ shown_near p.proof p.point n p.pulls)
 
 pub text_is : (r : Report) (s : State) (v : Shown) (z : List ℤ) → v ≡ shown s → z ≡ point_of s → sheet_text r v z ≡ plan_text r s
 text_is r s v z ev ez = ap (λ (x : Shown). sheet_text r x z) ev ∙ ap (sheet_text r (shown s)) ez
