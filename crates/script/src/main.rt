@@ -3,10 +3,11 @@
 
 use calls::{Amendment, Dropped, Found, Report, Shown, Verdict};
 use exchange::End as ExchangeEnd;
-use opening::{Lists, Refusal};
+use opening::Refusal;
 use session::{Answer, Call, session};
+use small_job::{CURVATURE, LISTS, ROW};
 use std::io;
-use table::{Record, Triplets};
+use table::Triplets;
 use walk::End as WalkEnd;
 
 fn print_refusal(rt: &HostRuntime, refusal: &Refusal) -> io::Result<()> {
@@ -79,51 +80,11 @@ fn limits(lo: i64, hi: i64) -> Call<'static> {
     Call::Amend(Amendment::Row { index: 0, lo, hi })
 }
 
-/// Two ropes: G = (2, 0; 0, 2), c = (-4, -6), bounds 0 to 10, row (1, 1) from 0 to 3, slip 0.
+/// Makes the calls on a plan of J.
 fn run_calls(rt: &HostRuntime, calls: &[Call]) -> io::Result<()> {
-    let curvature = [
-        Record {
-            row: 0,
-            column: 0,
-            number: 2,
-        },
-        Record {
-            row: 1,
-            column: 1,
-            number: 2,
-        },
-    ];
-    let g = Triplets {
-        height: 2,
-        width: 2,
-        records: &curvature,
-    };
-    let ones = [
-        Record {
-            row: 0,
-            column: 0,
-            number: 1,
-        },
-        Record {
-            row: 0,
-            column: 1,
-            number: 1,
-        },
-    ];
-    let a = Triplets {
-        height: 1,
-        width: 2,
-        records: &ones,
-    };
-    let lists = Lists {
-        c: &[-4, -6],
-        l: &[0, 0],
-        u: &[10, 10],
-        lo: &[0],
-        hi: &[3],
-        slip: &[0, 0, 0, 0],
-    };
-    match session(rt.alloc(), g, a, &lists, calls) {
+    let g = Triplets::new(2, 2, &CURVATURE);
+    let a = Triplets::new(1, 2, &ROW);
+    match session(rt.alloc(), g, a, &LISTS, calls) {
         Ok(answers) => {
             for answer in answers.as_slice() {
                 print_answer(rt, answer)?;
