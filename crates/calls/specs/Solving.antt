@@ -12,8 +12,8 @@ use Rattle.terms.specs.declared.unmet.Unmet.{Unmet}
 use Rattle.reading.specs.Plain.{plain}
 use Rattle.exchange.specs.Runs.{Run, exchanged, reported}
 use Rattle.exchange.specs.declared.members.Offer.{Offer as Found}
-use Rattle.walk.specs.ProblemWalks.{Ended, walk_from}
-use Rattle.walk.specs.ProblemLaws.{Lawful}
+use Rattle.walk.specs.Walks.{Ended, walk_from}
+use Rattle.walk.specs.Laws.{Lawful}
 use Rattle.calls.specs.declared.answers.Report.{Report}
 use Rattle.calls.specs.States.{State, Pair}
 use Rattle.calls.specs.Offers.{Offer, point, pair, took_all}

@@ -7,7 +7,7 @@ use Rattle.std.proofs.lemmas.Int.{clamps}
 use Rattle.duality.proofs.Sizes.{sizes}
 use Rattle.duality.specs.Lists.{places}
 use Rattle.duality.specs.Problem.{Problem}
-use Rattle.job.specs.ProblemBounds.{InBounds, held}
+use Rattle.job.specs.Bounds.{InBounds, held}
 use Rattle.job.specs.Numbers.{problem_of}
 use Rattle.duality.specs.Tests.{within, all_within}
 use Rattle.job.specs.declared.numbers.Job.{Job}

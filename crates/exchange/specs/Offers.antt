@@ -3,7 +3,7 @@ use Rattle.std.specs.Prelude.{ℕ, ◌-◌, cond, List, [], ◌∷◌, ◌++◌,
 use Rattle.std.specs.List.{range_with_len}
 use Rattle.duality.specs.Lists.{places}
 use Rattle.duality.specs.Problem.{Problem}
-use Rattle.job.specs.ProblemBounds.{held}
+use Rattle.job.specs.Bounds.{held}
 use Rattle.exchange.specs.Breaches.{same}
 use Rattle.exchange.specs.Rounding.{pulled, pressed}
 use Rattle.exchange.specs.declared.members.Limit.{Limit}

@@ -2,7 +2,7 @@
 use Rattle.std.specs.Prelude.{◌≡◌, true, take}
 use Rattle.duality.specs.Problem.{Problem}
 use Rattle.duality.specs.Tests.{all_within}
-use Rattle.job.specs.ProblemBounds.{InBounds}
+use Rattle.job.specs.Bounds.{InBounds}
 use Rattle.exchange.specs.declared.members.Step.{Step}
 use Rattle.exchange.specs.declared.members.Step.TheVariants.{Refused, Stuck, Found}
 

@@ -11,7 +11,7 @@ use Rattle.duality.specs.Problem.{Problem}
 use Rattle.duality.proofs.Ring.{lin}
 use Rattle.duality.specs.Tests.{all, between}
 use Rattle.job.specs.Numbers.{problem_of}
-use Rattle.job.specs.ProblemBounds.{InBounds, is_in_bounds, held, clamped}
+use Rattle.job.specs.Bounds.{InBounds, is_in_bounds, held, clamped}
 use Rattle.job.specs.declared.numbers.Job.{Job}
 use Rattle.duality.proofs.Tests.{all_at, all_not, all_from, between_parts, between_from, ordered_at}
 

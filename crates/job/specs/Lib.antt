@@ -2,4 +2,4 @@ pub mod Numbers
 pub mod Strides
 pub mod Points
 pub mod Rows
-pub mod ProblemBounds
+pub mod Bounds

@@ -1,7 +1,7 @@
 //! Points and their bounds.
 ghost use Rattle.std.specs.Prelude.{◌≡◌, true, length, Decides, ◌==◌};
 ghost use Rattle.job.specs.Numbers.{problem_of};
-ghost use Rattle.job.specs.ProblemBounds.{clamped, is_in_bounds, InBounds};
+ghost use Rattle.job.specs.Bounds.{clamped, is_in_bounds, InBounds};
 
 use crate::numbers::Job;
 use terms::between;

@@ -9,15 +9,15 @@ use Rattle.duality.proofs.Tests.{all_from, between_from, ordered_at}
 use Rattle.table.specs.Grid.{Grid}
 use Rattle.evaluate.specs.Stated.{Numbers}
 use Rattle.evaluate.specs.declared.terms.Terms.{Terms}
-use Rattle.job.specs.ProblemBounds.{is_in_bounds}
+use Rattle.job.specs.Bounds.{is_in_bounds}
 use Rattle.job.specs.Numbers.{problem}
 use Rattle.reading.specs.Plain.{plain}
 use Rattle.job.specs.Rows.{judged}
 use Rattle.exchange.specs.Runs.{exchanged}
 use Rattle.exchange.specs.declared.members.Report.{Report as Exchanged}
 use Rattle.exchange.proofs.Running.{lawful_run}
-use Rattle.walk.specs.ProblemLaws.{Lawful}
-use Rattle.walk.specs.ProblemWalks.{Ended, ended, walk_from}
+use Rattle.walk.specs.Laws.{Lawful}
+use Rattle.walk.specs.Walks.{Ended, ended, walk_from}
 use Rattle.walk.specs.declared.ends.Walked.{Walked}
 use Rattle.calls.specs.declared.answers.Report.{Report}
 use Rattle.calls.specs.States.{State}

@@ -4,7 +4,7 @@ use lib.Ieee.{Float}
 use Rattle.duality.specs.Problem.{Problem}
 use Rattle.elimination.specs.Lines.{largest}
 use Rattle.evaluate.specs.Stated.{Numbers}
-use Rattle.job.specs.ProblemBounds.{is_in_bounds}
+use Rattle.job.specs.Bounds.{is_in_bounds}
 use Rattle.job.proofs.Holding.{in_bounds_in}
 use Rattle.exchange.specs.declared.members.Offer.{Offer as Found}
 use Rattle.exchange.specs.declared.members.Member.{Member}

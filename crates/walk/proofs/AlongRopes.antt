@@ -2,9 +2,9 @@
 use Rattle.std.proofs.Common.{◌≡◌, ℕ, ◌+◌, ◌-◌, ◌<◌, ◌≤◌, Bool, true, false, cond, List, ℤ, is_some, Some, None, Option, sym, refl, ap, ◌∙◌, arith}
 use native.Mathlib.Nat.{sub-zero}
 use Rattle.duality.specs.Problem.{Problem}
-use Rattle.walk.specs.ProblemLowering.{lowers}
+use Rattle.walk.specs.Lowering.{lowers}
 use Rattle.walk.specs.Moves.{of_rope}
-use Rattle.walk.specs.ProblemWalks.{first, first_move, moved}
+use Rattle.walk.specs.Walks.{first, first_move, moved}
 use Rattle.walk.specs.declared.moves.Move.{Move}
 use Rattle.walk.proofs.Firsts.{ropes_from, ropes_start, ropes_more, ropes_none, first_after, first_before}
 

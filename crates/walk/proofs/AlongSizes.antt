@@ -6,12 +6,12 @@ use Rattle.duality.specs.Problem.{Problem}
 use Rattle.duality.proofs.Ring.{lin}
 use Rattle.duality.proofs.Sizes.{nat_abs_neg}
 use Rattle.job.proofs.Bits.{back, back_is, small_of}
-use Rattle.job.specs.ProblemBounds.{InBounds}
+use Rattle.job.specs.Bounds.{InBounds}
 use Rattle.job.specs.declared.numbers.Job.{Job}
-use Rattle.walk.specs.ProblemLowering.{lowers}
+use Rattle.walk.specs.Lowering.{lowers}
 use Rattle.walk.specs.Moves.{move, sizes, both_ways, of_rope, after}
 use Rattle.walk.specs.Running.{Tracks}
-use Rattle.walk.specs.ProblemWalks.{first}
+use Rattle.walk.specs.Walks.{first}
 use Rattle.walk.specs.declared.moves.Move.{Move}
 use Rattle.walk.specs.declared.room.Room.{Room}
 use Rattle.walk.proofs.Firsts.{left_of, left_more, first_yes, first_no}

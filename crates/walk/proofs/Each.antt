@@ -6,7 +6,7 @@ use Rattle.duality.specs.Lists.{places}
 use Rattle.duality.specs.Sums.{absℤ}
 use Rattle.duality.proofs.Sizes.{nat_abs_neg}
 use Rattle.walk.specs.Moves.{sizes, both_ways, of_rope, candidates}
-use Rattle.walk.specs.ProblemWalks.{first}
+use Rattle.walk.specs.Walks.{first}
 use Rattle.walk.specs.declared.moves.Move.{Move}
 use Rattle.walk.proofs.Sizes.{sizes_long, sizes_positive}
 use Rattle.walk.proofs.Firsts.{first_yes, first_no}

@@ -5,7 +5,7 @@ use Rattle.std.proofs.lemmas.List.{drop_more, drop_all}
 use Rattle.std.proofs.lemmas.Bool.{cases_Bool}
 use Rattle.duality.specs.Lists.{places}
 use Rattle.walk.specs.Moves.{sizes, both_ways, of_rope, candidates}
-use Rattle.walk.specs.ProblemWalks.{first}
+use Rattle.walk.specs.Walks.{first}
 use Rattle.walk.specs.declared.moves.Move.{Move}
 use Rattle.walk.proofs.Sizes.{sizes_long}
 

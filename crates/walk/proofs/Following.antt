@@ -9,7 +9,7 @@ use Rattle.duality.specs.Problem.{row_at, cost}
 use Rattle.duality.proofs.Lists.{set_shift}
 use Rattle.duality.proofs.Shifts.{Shift, dot_shift}
 use Rattle.duality.proofs.Sums.{∑-cong}
-use Rattle.job.specs.ProblemBounds.{InBounds}
+use Rattle.job.specs.Bounds.{InBounds}
 use Rattle.job.specs.Numbers.{problem_of}
 use Rattle.job.specs.Points.{gradient}
 use Rattle.duality.specs.Tests.{many_within}

@@ -4,11 +4,11 @@ use Rattle.duality.specs.Lists.{places}
 use Rattle.duality.specs.Sums.{Vector}
 use Rattle.duality.specs.Problem.{Problem}
 use Rattle.duality.proofs.Ring.{lin}
-use Rattle.job.specs.ProblemBounds.{InBounds}
-use Rattle.walk.specs.ProblemLaws.{Downhill, NoWorse, Lawful}
-use Rattle.walk.specs.ProblemLowering.{Below}
+use Rattle.job.specs.Bounds.{InBounds}
+use Rattle.walk.specs.Laws.{Downhill, NoWorse, Lawful}
+use Rattle.walk.specs.Lowering.{Below}
 use Rattle.walk.specs.Moves.{after}
-use Rattle.walk.specs.ProblemWalks.{first_move, Ended, onward, walk_from, ended}
+use Rattle.walk.specs.Walks.{first_move, Ended, onward, walk_from, ended}
 use Rattle.walk.specs.declared.moves.Move.{Move}
 use Rattle.walk.specs.declared.ends.Walked.{Walked}
 use Rattle.walk.specs.declared.ends.End.{End}

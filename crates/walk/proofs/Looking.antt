@@ -10,7 +10,7 @@ use Rattle.job.specs.Points.{gradient}
 use Rattle.job.specs.Rows.{outside}
 use Rattle.job.specs.declared.numbers.Job.{Job}
 use Rattle.job.proofs.Outside.{excess_nonneg}
-use Rattle.walk.specs.ProblemLowering.{lower, below}
+use Rattle.walk.specs.Lowering.{lower, below}
 use Rattle.walk.specs.Running.{Tracks, outside_after, gain_of, looks_lower}
 use Rattle.walk.proofs.Following.{outside_moved, cost_moved}
 use Rattle.walk.proofs.Ticks.{ticks}

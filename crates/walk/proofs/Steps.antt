@@ -6,13 +6,13 @@ use Rattle.std.proofs.lemmas.Int.{ints}
 use Rattle.std.proofs.lemmas.Bool.{cases_Bool, cases_eq, both_ways}
 use Rattle.duality.specs.Lists.{places}
 use Rattle.duality.specs.Problem.{Problem, cost}
-use Rattle.job.specs.ProblemBounds.{InBounds}
+use Rattle.job.specs.Bounds.{InBounds}
 use Rattle.job.specs.Rows.{outside}
 use Rattle.duality.proofs.Tests.{between_parts, between_from}
-use Rattle.walk.specs.ProblemLowering.{Below, Step, lower, below, allowed, lowers}
-use Rattle.walk.specs.ProblemLaws.{Descent}
+use Rattle.walk.specs.Lowering.{Below, Step, lower, below, allowed, lowers}
+use Rattle.walk.specs.Laws.{Descent}
 use Rattle.walk.specs.Moves.{after, candidates}
-use Rattle.walk.specs.ProblemWalks.{first_move}
+use Rattle.walk.specs.Walks.{first_move}
 use Rattle.walk.specs.declared.moves.Move.{Move}
 use Rattle.walk.proofs.Each.{Listed, candidates_listed, each_listed, first_holds, first_none}
 use Rattle.walk.proofs.Sizes.{sizes_small}

@@ -2,11 +2,11 @@
 use Rattle.std.proofs.Common.{◌≡◌, ℕ, ◌<◌, Bool, true, false, cond, List, set, ℤ, pos, ◌+ℤ◌, sym, ap, ◌∙◌}
 use Rattle.std.proofs.lemmas.List.{set-get_or}
 use Rattle.duality.specs.Lists.{places}
-use Rattle.job.specs.ProblemBounds.{InBounds}
+use Rattle.job.specs.Bounds.{InBounds}
 use Rattle.job.specs.Numbers.{problem_of}
 use Rattle.duality.specs.Tests.{between}
 use Rattle.job.specs.declared.numbers.Job.{Job}
-use Rattle.walk.specs.ProblemLowering.{below, allowed, lowers}
+use Rattle.walk.specs.Lowering.{below, allowed, lowers}
 use Rattle.walk.specs.Moves.{move, after}
 use Rattle.walk.specs.Running.{Tracks, looks_lower}
 use Rattle.walk.specs.declared.room.Room.{Room}

@@ -3,7 +3,7 @@ use Rattle.std.proofs.Common.{◌≡◌, ℕ, zero, suc, ◌+◌, ◌-◌, ◌<�
 use native.Mathlib.Nat.{sub-zero}
 use Rattle.duality.specs.Problem.{Problem}
 use Rattle.walk.specs.Moves.{after}
-use Rattle.walk.specs.ProblemWalks.{first_move, Ended, one_more, onward, walk_from}
+use Rattle.walk.specs.Walks.{first_move, Ended, one_more, onward, walk_from}
 use Rattle.walk.specs.declared.moves.Move.{Move}
 use Rattle.walk.specs.declared.ends.End.TheVariants.{Settled, Spent}
 use Rattle.walk.proofs.AlongRopes.{either_stands}

@@ -8,7 +8,7 @@ use Rattle.job.specs.Points.{gradient}
 use Rattle.terms.specs.Ticks.{excess}
 use Rattle.job.specs.Rows.{outside}
 use Rattle.job.specs.declared.numbers.Job.{Job}
-use Rattle.walk.specs.ProblemLowering.{lower}
+use Rattle.walk.specs.Lowering.{lower}
 use Rattle.walk.specs.declared.room.Room.{Room}
 
 -- a list of n numbers, those of the vector

@@ -6,7 +6,7 @@ ghost use Rattle.job.specs.Numbers.{has_sizes, problem_of};
 ghost use Rattle.job.specs.Points.{gradient as gradient_of};
 ghost use Rattle.duality.specs.Tests.{many_within};
 ghost use Rattle.terms.specs.Ticks.{excess as excess_of, Near};
-ghost use Rattle.walk.specs.ProblemLowering.{lower as lower_of};
+ghost use Rattle.walk.specs.Lowering.{lower as lower_of};
 ghost use Rattle.walk.specs.Running.{Lists, Sized, ropes_in, rows_in, Tracks, Tame, outside_after, gain_of, looks_lower, Raised, Shifted};
 
 use crate::moves::Shift;

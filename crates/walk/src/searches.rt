@@ -1,11 +1,11 @@
 //! The search for the first move that lowers: ropes up the list, sizes down the table, plus before minus.
 ghost use Rattle.std.specs.Prelude.{◌≡◌, ◌<◌, if◌then◌else◌};
-ghost use Rattle.job.specs.ProblemBounds.{InBounds};
+ghost use Rattle.job.specs.Bounds.{InBounds};
 ghost use Rattle.job.specs.Numbers.{problem_of};
-ghost use Rattle.walk.specs.ProblemLowering.{lowers};
+ghost use Rattle.walk.specs.Lowering.{lowers};
 ghost use Rattle.walk.specs.Moves.{of_rope};
 ghost use Rattle.walk.specs.Running.{Tracks};
-ghost use Rattle.walk.specs.ProblemWalks.{first, first_move, moved};
+ghost use Rattle.walk.specs.Walks.{first, first_move, moved};
 
 use crate::moves::{Move, SIZES, Shift};
 use crate::room::Room;

@@ -1,8 +1,8 @@
 //! One move tried: the rope goes back unless the move lowers and may be made.
 ghost use Rattle.std.specs.Prelude.{◌≡◌, ◌≤◌, false, ◌+ℤ◌, if◌then◌else◌, unsigned_abs};
-ghost use Rattle.job.specs.ProblemBounds.{InBounds};
+ghost use Rattle.job.specs.Bounds.{InBounds};
 ghost use Rattle.job.specs.Numbers.{problem_of};
-ghost use Rattle.walk.specs.ProblemLowering.{lowers};
+ghost use Rattle.walk.specs.Lowering.{lowers};
 ghost use Rattle.walk.specs.Moves.{move, after as after_move};
 ghost use Rattle.walk.specs.Running.{Tracks, Tame, looks_lower};
 

@@ -1,10 +1,10 @@
 //! The walk itself.
 ghost use Rattle.std.specs.Prelude.{◌≡◌, IfOk};
-ghost use Rattle.job.specs.ProblemBounds.{InBounds};
+ghost use Rattle.job.specs.Bounds.{InBounds};
 ghost use Rattle.job.specs.Numbers.{problem_of};
-ghost use Rattle.walk.specs.ProblemLaws.{Asked, Outcome, Lawful};
+ghost use Rattle.walk.specs.Laws.{Asked, Outcome, Lawful};
 ghost use Rattle.walk.specs.Running.{Sized, ropes_in, rows_in};
-ghost use Rattle.walk.specs.ProblemWalks.{walk_from, ended};
+ghost use Rattle.walk.specs.Walks.{walk_from, ended};
 
 use crate::ends::{End, Unfit, Unwalked, Walked};
 use crate::moves::Shift;

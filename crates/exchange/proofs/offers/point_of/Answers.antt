@@ -3,7 +3,7 @@ use native.Mathlib.Nat.{sub-zero}
 use borrow.Rule.Slice.PartMut.{post_of}
 use Rattle.std.proofs.lemmas.List.{length-take-le}
 use Rattle.job.specs.Numbers.{problem_of}
-use Rattle.job.specs.ProblemBounds.{clamped}
+use Rattle.job.specs.Bounds.{clamped}
 use Rattle.job.specs.declared.numbers.Job.{Job}
 use Rattle.exchange.specs.Offers.{inside_bounds}
 use Rattle.exchange.proofs.offers.point_of.Goals as goal

@@ -1,5 +1,5 @@
 use Rattle.std.proofs.Common.{rules}
-use Rattle.walk.specs.ProblemLowering.{lower}
+use Rattle.walk.specs.Lowering.{lower}
 use Rattle.walk.proofs.room.lower.Goals as goal
 
 pub returns-then-after-before : goal.returns-then-after-before

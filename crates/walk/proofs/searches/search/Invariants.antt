@@ -1,7 +1,7 @@
 use Rattle.std.proofs.Common.{◌≡◌, ◌-◌}
 use Rattle.job.specs.Numbers.{problem_of}
-use Rattle.walk.specs.ProblemLowering.{lowers}
-use Rattle.walk.specs.ProblemWalks.{first, first_move}
+use Rattle.walk.specs.Lowering.{lowers}
+use Rattle.walk.specs.Walks.{first, first_move}
 use Rattle.walk.proofs.Firsts.{ropes_from}
 use Rattle.walk.proofs.searches.search.Given as goal
 

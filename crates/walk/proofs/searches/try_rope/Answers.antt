@@ -3,8 +3,8 @@ use Rattle.duality.specs.Lists.{places}
 use Rattle.job.proofs.Bits.{back_is, small_back}
 use Rattle.job.specs.Numbers.{problem_of}
 use Rattle.walk.specs.Moves.{sizes}
-use Rattle.walk.specs.ProblemLowering.{lowers}
-use Rattle.walk.specs.ProblemWalks.{first}
+use Rattle.walk.specs.Lowering.{lowers}
+use Rattle.walk.specs.Walks.{first}
 use Rattle.walk.proofs.Sizes.{sizes_small}
 use Rattle.walk.proofs.Firsts.{left_start, left_none}
 use Rattle.walk.proofs.AlongSizes.{way_is, way_small, in_start, hit, miss}

@@ -1,8 +1,8 @@
 use Rattle.std.proofs.Common.{◌≡◌}
 use Rattle.job.specs.Numbers.{problem_of}
-use Rattle.walk.specs.ProblemLowering.{lowers}
+use Rattle.walk.specs.Lowering.{lowers}
 use Rattle.walk.specs.Moves.{of_rope}
-use Rattle.walk.specs.ProblemWalks.{first}
+use Rattle.walk.specs.Walks.{first}
 use Rattle.walk.proofs.Firsts.{left_of}
 use Rattle.walk.proofs.AlongSizes.{left_in}
 use Rattle.walk.proofs.searches.try_rope.Given as goal

@@ -1,8 +1,8 @@
 use Rattle.std.proofs.Common.{◌≡◌, ◌-◌, ◌≤◌}
-use Rattle.job.specs.ProblemBounds.{InBounds}
+use Rattle.job.specs.Bounds.{InBounds}
 use Rattle.job.specs.Numbers.{problem_of}
 use Rattle.walk.specs.Running.{Tracks}
-use Rattle.walk.specs.ProblemWalks.{walk_from}
+use Rattle.walk.specs.Walks.{walk_from}
 use Rattle.walk.proofs.Turns.{plus}
 use Rattle.walk.proofs.walks.descend.Given as goal
 

@@ -1,7 +1,7 @@
 use Rattle.std.proofs.Common.{◌≡◌, ℕ, ◌<◌, ◌≤◌}
 use Rattle.duality.specs.Lists.{places}
 use Rattle.job.specs.Numbers.{problem_of}
-use Rattle.job.specs.ProblemBounds.{held}
+use Rattle.job.specs.Bounds.{held}
 use Rattle.job.proofs.numbers.Job.clamp.Given as goal
 
 abbrev pub invariant-loop-j : goal.invariant-loop-j

@@ -1,13 +1,13 @@
 use Rattle.std.proofs.Common.{◌≡◌, sym, ap, ◌∙◌, subst}
 use Rattle.duality.specs.Lists.{places}
 use Rattle.duality.specs.Problem.{Problem}
-use Rattle.job.specs.ProblemBounds.{is_in_bounds}
+use Rattle.job.specs.Bounds.{is_in_bounds}
 use Rattle.job.specs.Numbers.{problem_of}
 use Rattle.job.specs.Rows.{judged}
 use Rattle.job.proofs.Reading.{wider}
 use Rattle.exchange.specs.Runs.{exchanged}
-use Rattle.walk.specs.ProblemLaws.{Lawful}
-use Rattle.walk.specs.ProblemWalks.{ended, walk_from}
+use Rattle.walk.specs.Laws.{Lawful}
+use Rattle.walk.specs.Walks.{ended, walk_from}
 use Rattle.walk.proofs.Following.{a_point}
 use Rattle.calls.specs.States.{State}
 use Rattle.calls.specs.Offers.{took_all}

@@ -3,12 +3,12 @@ use Rattle.std.specs.Prelude.{◌≡◌, ℕ, zero, suc, ◌≤◌, true, false,
 use Rattle.duality.specs.Lists.{places}
 use Rattle.duality.specs.Sums.{Vector}
 use Rattle.duality.specs.Problem.{Problem, cost}
-use Rattle.job.specs.ProblemBounds.{InBounds, is_in_bounds}
+use Rattle.job.specs.Bounds.{InBounds, is_in_bounds}
 use Rattle.job.specs.Numbers.{has_sizes}
 use Rattle.job.specs.Rows.{outside}
 use Rattle.walk.specs.Moves.{after}
-use Rattle.walk.specs.ProblemLowering.{Below, Step}
-use Rattle.walk.specs.ProblemWalks.{walk_from, ended}
+use Rattle.walk.specs.Lowering.{Below, Step}
+use Rattle.walk.specs.Walks.{walk_from, ended}
 use Rattle.walk.specs.declared.moves.Move.{Move}
 use Rattle.walk.specs.declared.ends.Walked.{Walked}
 use Rattle.walk.specs.declared.ends.Unwalked.{Unwalked}

@@ -2,7 +2,7 @@
 use Rattle.std.specs.Prelude.{ℕ, zero, suc, ◌+◌, Bool, cond, List, [], ◌∷◌, ℤ, is_some, Some, None, Option}
 use Rattle.duality.specs.Problem.{Problem}
 use Rattle.walk.specs.Moves.{after, candidates}
-use Rattle.walk.specs.ProblemLowering.{lowers}
+use Rattle.walk.specs.Lowering.{lowers}
 use Rattle.walk.specs.declared.moves.Move.{Move}
 use Rattle.walk.specs.declared.ends.Walked.{Walked}
 use Rattle.walk.specs.declared.ends.End.{End}
