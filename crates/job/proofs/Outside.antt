@@ -10,7 +10,8 @@ use Rattle.duality.proofs.Sums.{∑-more, ∑-cong, ∑-zero, ∑-pick}
 use Rattle.duality.proofs.Sizes.{sizes, small_add, small-∑}
 use Rattle.job.specs.Numbers.{problem_of}
 use Rattle.duality.specs.Tests.{many_within}
-use Rattle.job.specs.Rows.{outside, RowMet, RowsMet, MetInside, meets}
+use Rattle.terms.specs.Findings.{RowKept, keeps_row}
+use Rattle.job.specs.Rows.{outside, RowsMet, MetInside}
 use Rattle.terms.specs.Ticks.{excess, Near}
 use Rattle.duality.specs.Tests.{between}
 use Rattle.job.specs.declared.numbers.Job.{Job}
@@ -63,14 +64,14 @@ pub part_is : (j : Job) (z : List ℤ) (i : ℕ) (low high s r : ℤ) → low �
 part_is j z i low high s r el eh es er = cc
 
 pub meets_is : (j : Job) (z : List ℤ) (i : ℕ) (low high s : ℤ) (b : Bool) → low ≡ (problem_of j).lo i → high ≡ (problem_of j).hi i → s ≡ row_at (problem_of j) (places z) i →
-    b ≡ between low high s → meets (problem_of j) (places z) i ≡ b
+    b ≡ between low high s → keeps_row (problem_of j) (places z) i ≡ b
 meets_is j z i low high s b el eh es e = cc
 
-pub row_met : (P : Problem) (z : Vector) (i : ℕ) → meets P z i ≡ true → RowMet P z i
+pub row_met : (P : Problem) (z : Vector) (i : ℕ) → keeps_row P z i ≡ true → RowKept P z i
 row_met P z i e = between_parts (P.lo i) (P.hi i) (row_at P z i) e
 
-pub row_broken : (P : Problem) (z : Vector) (i : ℕ) → meets P z i ≡ false → RowMet P z i → ⊥
-row_broken P z i e h = both_ways (meets P z i) e (between_from (P.lo i) (P.hi i) (row_at P z i) h.0 h.1)
+pub row_broken : (P : Problem) (z : Vector) (i : ℕ) → keeps_row P z i ≡ false → RowKept P z i → ⊥
+row_broken P z i e h = both_ways (keeps_row P z i) e (between_from (P.lo i) (P.hi i) (row_at P z i) h.0 h.1)
 
 module _ (j : Job) (z : List ℤ) (p : many_within j.ropes 32768 z ≡ true) where
   pub row_at_small : (i : ℕ) → nat_abs (row_at (problem_of j) (places z) i) ≤ 2 ^ 39

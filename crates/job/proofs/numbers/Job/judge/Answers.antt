@@ -2,7 +2,7 @@ use Rattle.std.proofs.Common.{◌≡◌, ◌^◌, ◌<◌, true, false, sym, ap,
 use Rattle.std.proofs.lemmas.Bool.{cond-true}
 use Rattle.duality.specs.Lists.{places}
 use Rattle.job.specs.Numbers.{problem_of}
-use Rattle.job.specs.Rows.{meets, verdict}
+use Rattle.terms.specs.Findings.{keeps_row, finding}
 use Rattle.duality.specs.Tests.{first_not}
 use Rattle.job.proofs.Bits.{back_of}
 use Rattle.job.proofs.Reading.{point_small, row_small, hi_read, lo_at}
@@ -26,8 +26,8 @@ returns-then-not-between c =
     let P = problem_of c.args.self.now in
     let x = places c.args.z.now in
     record {
-      value = ap verdict (sym (first_at (meets P x) c.loop-i.i c.args.self.now.rows c.loop-i.invariant no' l)) ∙ sym (cond-true _ _ _ p);
-      law = (l, row_broken P x c.loop-i.i no', λ k l. row_met P x k (first_none (meets P x) c.loop-i.i k c.loop-i.invariant l));
+      value = ap finding (sym (first_at (keeps_row P x) c.loop-i.i c.args.self.now.rows c.loop-i.invariant no' l)) ∙ sym (cond-true _ _ _ p);
+      law = (l, row_broken P x c.loop-i.i no', λ k l. row_met P x k (first_none (keeps_row P x) c.loop-i.i k c.loop-i.invariant l));
     }
 
 pub loop-i-preserved : goal.loop-i-preserved
@@ -38,15 +38,15 @@ loop-i-preserved c =
     let hi = hi_read c.args.self.now c.loop-i.i _ c.index.ensures l in
     let s = back_of (2 ^ 54) c.row_at.result _ c.row_at.ensures (row_small c.args.self.now (places c.args.z.now) 1073741824 c.loop-i.i
     (point_small _ 1073741824 c.args.z.now p)) (lit< tt) in
-    first_more (meets (problem_of c.args.self.now) (places c.args.z.now)) c.loop-i.i c.loop-i.invariant
+    first_more (keeps_row (problem_of c.args.self.now) (places c.args.z.now)) c.loop-i.i c.loop-i.invariant
     (meets_is c.args.self.now c.args.z.now c.loop-i.i _ _ _ true lo hi s c.if-not-between.ensures)
 
 pub returns : goal.returns
 returns c =
     let e : c.loop-i.i ≡ c.args.self.now.rows = omega (arith, c.loop-i-test.false, c.loop-i.auto.i-end, c.deref-lo-items.ensures.len, c.args.self.now.floors.0) in
-    let all = ap (first_not (meets (problem_of c.args.self.now) (places c.args.z.now))) (sym e) ∙ c.loop-i.invariant in
+    let all = ap (first_not (keeps_row (problem_of c.args.self.now) (places c.args.z.now))) (sym e) ∙ c.loop-i.invariant in
     record {
-      value = ap verdict (sym all) ∙ sym (cond-true _ _ _ (sym c.if-not-many_within.ensures));
-      law = λ k l. row_met (problem_of c.args.self.now) (places c.args.z.now) k (first_none (meets (problem_of c.args.self.now) (places c.args.z.now))
+      value = ap finding (sym all) ∙ sym (cond-true _ _ _ (sym c.if-not-many_within.ensures));
+      law = λ k l. row_met (problem_of c.args.self.now) (places c.args.z.now) k (first_none (keeps_row (problem_of c.args.self.now) (places c.args.z.now))
           c.args.self.now.rows k all l);
     }
