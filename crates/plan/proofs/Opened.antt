@@ -9,8 +9,7 @@ use Rattle.table.specs.Grid.{Grid}
 use Rattle.opening.specs.Opening.{Numbers, open_fault}
 use Rattle.opening.specs.Fits.{Fits, Near, Ordered}
 use Rattle.opening.proofs.Fitting.{tells_fit}
-use Rattle.terms.specs.Numbers.{sizes, limited}
-use Rattle.terms.specs.Numbers.{numbers, fitting}
+use Rattle.terms.specs.Numbers.{numbers, fitting, sizes, limited}
 use Rattle.opening.specs.declared.refusal.Refusal.{Refusal}
 use Rattle.opening.specs.Firsts.{unless}
 use Rattle.calls.specs.States.{State}

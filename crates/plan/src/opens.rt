@@ -11,6 +11,7 @@ use evaluate::Terms;
 use opening::{Lists, Refusal, check_opening};
 use std::alloc::{AllocError, Global};
 use table::Table;
+use terms::MOST_ROWS;
 
 /// A point with all multipliers 0.
 fn unweighted(point: &[i64], rows: usize) -> HeldPair
@@ -19,7 +20,7 @@ fn unweighted(point: &[i64], rows: usize) -> HeldPair
     ensures point { result.point.items ≡ point.now }
     ensures multipliers { result.multipliers.items ≡ replicate rows (pos 0) }
 {
-    let zeros = [0i64; 32];
+    let zeros = [0i64; MOST_ROWS];
     HeldPair {
         point: copied(point),
         multipliers: copied(&zeros[..rows]),
