@@ -97,12 +97,10 @@ fn check_sections(card: &[u8], sizes: &Sizes) -> Result<(), Fault>
     requires { length card.now ≡ blocks_in sizes.now.ropes sizes.now.rows * 512 }
     ensures { result ≡ sections_check card.now sizes.now.ropes sizes.now.rows }
 {
-    check_section(card, Kind::Curvature, sizes)?;
-    check_section(card, Kind::Rows, sizes)?;
-    check_section(card, Kind::Costs, sizes)?;
-    check_section(card, Kind::Bounds, sizes)?;
-    check_section(card, Kind::Limits, sizes)?;
-    check_section(card, Kind::Slip, sizes)
+    for kind in Kind::AFTER_HEAD {
+        check_section(card, kind, sizes)?;
+    }
+    Ok(())
 }
 
 /// The sizes of a card, or the first fault of bytes that are none.
