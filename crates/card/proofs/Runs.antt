@@ -1,12 +1,11 @@
 -- A run of blocks under one letter, one block on.
-use Rattle.std.proofs.Common.{◌≡◌, ℕ, suc, ◌+◌, ◌-◌, ◌<◌, ◌≤◌, min, List, [], ◌∷◌, Ok, Err, refl, sym, ap, ◌∙◌, arith}
+use Rattle.std.proofs.Common.{◌≡◌, ℕ, suc, ◌+◌, ◌-◌, ◌<◌, min, List, [], ◌∷◌, Ok, Err, sym, ap, ◌∙◌, arith}
 use Rattle.block.specs.declared.fault.Fault.{Fault}
 use Rattle.block.specs.Blocks.{block_at}
 use Rattle.block.specs.Checks.{Verdict, and_then, block_check}
 use Rattle.section.specs.declared.kind.Kind.{Kind}
-use Rattle.section.specs.declared.kind.Kind.TheVariants.{Head, Curvature, Rows, Costs, Bounds, Limits, Slip}
-use Rattle.section.specs.Layout.{blocks_for, count_of, first_of, blocks_in}
-use Rattle.card.specs.Faults.{run_check, section_check, sections_check}
+use Rattle.section.specs.Layout.{blocks_for}
+use Rattle.card.specs.Faults.{run_check, section_check}
 
 blocks_more : (left : ℕ) → 0 < left → blocks_for left ≡ suc (blocks_for (left - 126))
 blocks_more left h = omega arith
