@@ -2,7 +2,7 @@
 ghost use Rattle.std.specs.Prelude.{◌≡◌, true, vec_len};
 ghost use Rattle.duality.specs.Lists.{places};
 ghost use Rattle.table.specs.Grid.{Grid};
-ghost use Rattle.evaluate.specs.Terms.{problem_of};
+ghost use Rattle.evaluate.specs.Stated.{problem_of};
 ghost use Rattle.evaluate.specs.Findings.{feasible};
 ghost use Rattle.evaluate.specs.Floors.{refuting};
 ghost use Rattle.calls.specs.Steps.{standing, was_dropped, amend_answer, amended};
@@ -52,9 +52,7 @@ impl<G: Table, A: Table> Plan<G, A> {
         ensures answer { result ≡ amend_answer (view G.Table.meant A.Table.meant self.old) amendment }
         ensures after { view G.Table.meant A.Table.meant self.new ≡ amended (view G.Table.meant A.Table.meant self.old) amendment }
     {
-        if let Some(refusal) = amend_terms(&mut self.terms, amendment) {
-            return Err(refusal);
-        }
+        amend_terms(&mut self.terms, amendment)?;
         Ok(Dropped {
             point: drop_broken(&self.a, &self.terms, &mut self.point),
             proof: drop_stale(&self.a, &self.terms, &mut self.proof),

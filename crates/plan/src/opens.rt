@@ -1,14 +1,14 @@
 //! Opening a plan.
 ghost use Rattle.std.specs.Prelude.{◌≡◌, ◌≤◌, length, replicate, pos, IfOk, Some};
 ghost use Rattle.opening.specs.Opening.{numbers_of};
-ghost use Rattle.evaluate.specs.Stated.{numbers, numbers_of as terms_of, fitting};
+ghost use Rattle.terms.specs.Numbers.{numbers, numbers_of as terms_of, fitting};
 ghost use Rattle.calls.specs.Opened.{Opens};
 ghost use Rattle.plan.specs.View.{view};
 
 use crate::evaluates::copied;
 use crate::state::{HeldPair, Plan};
 use evaluate::Terms;
-use opening::{Lists, Refusal, opening_fault};
+use opening::{Lists, Refusal, check_opening};
 use std::alloc::{AllocError, Global};
 use table::Table;
 
@@ -54,9 +54,7 @@ impl<G: Table + Drop, A: Table + Drop> Plan<G, A> {
     pub fn open(heap: Global, g: G, a: A, lists: &Lists) -> Result<Plan<G, A>, Refusal>
         ensures { Opens (view G.Table.meant A.Table.meant) (G.Table.meant g) (A.Table.meant a) (numbers_of lists.now) result }
     {
-        if let Some(fault) = opening_fault(&g, &a, lists) {
-            return Err(fault);
-        }
+        check_opening(&g, &a, lists)?;
         let terms = terms_of(heap, lists.c, lists.l, lists.u, lists.lo, lists.hi)?;
         Ok(Plan {
             g,
