@@ -1,5 +1,5 @@
 -- The definitions of breaches and choices, case by case.
-use Rattle.std.proofs.Common.{◌≡◌, ℕ, ◌+◌, ◌^◌, ◌<◌, ◌≤◌, Bool, true, false, ltb, List, length, ℤ, pos, nat_abs, vec_items, sym, refl, ap, ◌∙◌, le_refl, le-ltb, lt-ltb}
+use Rattle.std.proofs.Common.{◌≡◌, ℕ, ◌+◌, ◌^◌, ◌<◌, ◌≤◌, Bool, true, false, ltb, List, ◌∷◌, length, drop, ℤ, pos, nat_abs, vec_items, sym, refl, ap, ◌∙◌, le_refl, le-ltb, lt-ltb}
 use lib.Signed.{lt_z}
 use Rattle.std.specs.Option.{unwrap_or}
 use Rattle.duality.specs.Lists.{places}
@@ -20,7 +20,7 @@ use Rattle.exchange.specs.declared.members.Member.{Member}
 use Rattle.exchange.specs.declared.members.Breach.{Breach}
 use Rattle.exchange.specs.declared.members.Wrong.{Wrong}
 use Rattle.exchange.specs.declared.members.Choice.TheVariants.{Enter, Leave, Full, Done}
-use Rattle.exchange.proofs.Folds.{upto_more}
+use Rattle.exchange.proofs.Folds.{upto_more, next_here}
 
 pub row_small : (j : Job) (z : List ℤ) (i : ℕ) → many_within j.ropes 1073741824 z ≡ true → i < j.rows → nat_abs (row_at (problem_of j) (places z) i) ≤ 2 ^ 54
 row_small j z i p l =
@@ -48,6 +48,11 @@ module _ (P : Problem) (ms : List Member) (z : List ℤ) (b : Breach) (v : Limit
   pub worse_left : (o : Breach) → holds ms v ≡ false → o ≡ breach P z v → lt_z b.ticks o.ticks ≡ false → b ≡ worse P ms z b v
   unfolding worse
   worse_left o h e t = let t' : lt_z b.ticks (breach P z v).ticks ≡ false = ap (λ y. lt_z b.ticks y.ticks) (sym e) ∙ t in rw (h, t')
+
+pub wrong_here : (ms us vs : List Member) (ys ws zs : List ℤ) (m : Member) (y : ℤ) (k : ℕ) → us ≡ drop k ms → us ≡ m ∷ vs → ws ≡ drop k ys → ws ≡ y ∷ zs →
+    wrongness m.side y ≡ wrongness (member_at ms k).side (places ys k)
+wrong_here ms us vs ys ws zs m y k a b e f =
+    ap (λ z. wrongness z.side y) (sym (next_here ms us vs m k a b _)) ∙ ap (wrongness (member_at ms k).side) (sym (next_here ys ws zs y k e f (pos 0)))
 
 module _ (ms : List Member) (ys : List ℤ) (b : Wrong) (k s : ℕ) (e : b ≡ upto (more_wrong ms ys) unwronged k) (q : s ≡ wrongness (member_at ms k).side (places ys k)) where
   here : more_wrong ms ys b k ≡ upto (more_wrong ms ys) unwronged (k + 1)

@@ -1,5 +1,7 @@
 -- Loops that fold, and searches through members.
-use Rattle.std.proofs.Common.{◌≡◌, ℕ, ◌+◌, true, false, ◌||◌, List, [], ◌∷◌, ℤ, pos, refl, ap, ◌⊎◌, inl, inr, add-one}
+use Rattle.std.proofs.Common.{◌≡◌, ℕ, ◌+◌, ◌<◌, ◌≤◌, true, false, ◌||◌, List, [], ◌∷◌, length, get_or, drop, ℤ, pos, sym, refl, ap, ◌∙◌, ◌⊎◌, inl, inr, add-one, arith}
+use Rattle.std.proofs.Math.Nat.{add-zero}
+use Rattle.std.proofs.lemmas.List.{get_or-drop, drop-drop, length-drop}
 use Rattle.std.specs.List.{list_any}
 use Rattle.exchange.specs.Breaches.{same, holds, upto}
 use Rattle.exchange.specs.Offers.{pressure_of, inside_limit}
@@ -25,3 +27,17 @@ pressure_none [] ys v h = refl
 pressure_none (m ∷ ms) [] v h = refl
 pressure_none (m ∷ ms) (y ∷ ys) v (inl e) = cc
 pressure_none (m ∷ ms) (y ∷ ys) v (inr e) = cc
+
+-- what is left of a list, one step on and at the end
+module _ {X : Type 0} (xs ys us : List X) (x : X) (k : ℕ) (e : ys ≡ drop k xs) (f : ys ≡ x ∷ us) where
+  pub next_here : (d : X) → get_or xs k d ≡ x
+  next_here d = ap (λ (n : ℕ). get_or xs n d) (sym (add-zero k)) ∙ sym (get_or-drop k xs 0 d) ∙ ap (λ z. get_or z 0 d) (sym e ∙ f)
+
+  pub next_left : us ≡ drop (k + 1) xs
+  next_left = ap (drop 1) (sym f ∙ e) ∙ drop-drop 1 k xs
+
+  pub next_within : k < length xs
+  next_within = let q = ap length (sym f ∙ e) ∙ length-drop k xs in omega (arith, q)
+
+pub none_left : {X : Type 0} (xs : List X) (k : ℕ) → drop k xs ≡ [] → length xs ≤ k
+none_left xs k e = let q = sym (length-drop k xs) ∙ ap length e in omega (arith, q)

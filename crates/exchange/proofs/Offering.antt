@@ -16,7 +16,7 @@ use Rattle.duality.proofs.Tests.{all_from}
 use Rattle.elimination.specs.Nearest.{nearest}
 use Rattle.exchange.specs.Breaches.{same}
 use Rattle.exchange.specs.Offers.{filled, inside_bounds, inside_limit, pressure_of, multipliers, pulls_of, pressures_of, offered}
-use Rattle.exchange.specs.ProblemOffers.{OffersInside}
+use Rattle.exchange.specs.Steps.{OffersInside}
 use Rattle.exchange.specs.declared.members.Limit.{Limit}
 use Rattle.exchange.specs.declared.members.Limit.TheVariants.{Row}
 use Rattle.exchange.specs.declared.members.Member.{Member}

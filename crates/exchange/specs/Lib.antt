@@ -4,7 +4,6 @@ pub mod Breaches
 pub mod Choice
 pub mod Rounding
 pub mod Offers
-pub mod ProblemOffers
 pub mod Steps
 pub mod Runs
 pub mod Ends

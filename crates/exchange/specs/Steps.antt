@@ -1,16 +1,16 @@
 -- A step of the exchange, and the whole of it.
-use Rattle.std.specs.Prelude.{◌≡◌, ℕ, ◌<◌, Bool, false, cond, ◌&&◌, List, [], ◌∷◌, ◌++◌, length, Some, None, Option, ◌==◌, Float}
+use Rattle.std.specs.Prelude.{◌≡◌, ℕ, ◌<◌, false, cond, List, [], ◌∷◌, ◌++◌, length, Some, None, Option, Float, true, take}
 use Rattle.std.specs.List.{remove}
 use Rattle.duality.specs.Problem.{Problem}
 use Rattle.elimination.specs.Lines.{solved}
-use Rattle.job.specs.Numbers.{problem_of}
-use Rattle.job.specs.declared.numbers.Job.{Job}
+use Rattle.duality.specs.Tests.{all_within}
+use Rattle.job.specs.Bounds.{InBounds}
+use Rattle.job.specs.Numbers.{has_sizes}
 use Rattle.exchange.specs.Members.{Of}
 use Rattle.exchange.specs.Systems.{system_of}
 use Rattle.exchange.specs.Breaches.{holds}
 use Rattle.exchange.specs.Choice.{chosen}
 use Rattle.exchange.specs.Offers.{pulls_of, pressures_of, offered}
-use Rattle.exchange.specs.ProblemOffers.{OffersInside as OffersInsideOf}
 use Rattle.exchange.specs.declared.members.Member.{Member}
 use Rattle.exchange.specs.declared.members.Choice.{Choice}
 use Rattle.exchange.specs.declared.members.Choice.TheVariants.{Enter, Leave, Full, Done}
@@ -44,14 +44,11 @@ abbrev pub solved_at : Problem → List Member → Float → Float × Option (Li
 solved_at P ms s = solved s (system_of P ms)
 
 -- a step of an exchange of n ropes and m rows: a problem of other sizes is refused
-abbrev pub fits : Problem → ℕ → ℕ → Bool
-fits P n m = P.ropes == n && P.rows == m
-
 unfoldable pub step_of : Problem → ℕ → ℕ → List Member → Float → Step
-step_of P n m ms s = cond (fits P n m) (found P ms (solved_at P ms s).1) Refused
+step_of P n m ms s = cond (has_sizes P n m) (found P ms (solved_at P ms s).1) Refused
 
 unfoldable pub smallest_after : Problem → ℕ → ℕ → List Member → Float → Float
-smallest_after P n m ms s = cond (fits P n m) (solved_at P ms s).0 s
+smallest_after P n m ms s = cond (has_sizes P n m) (solved_at P ms s).0 s
 
 abbrev pub members_after : List Member → Step → List Member
 members_after ms Refused = ms
@@ -59,5 +56,7 @@ members_after ms Stuck = ms
 members_after ms (Found o ch) = changed ms ch
 
 -- Law: a step offers a point inside the bounds, and multipliers inside their limit; one that is stuck or refused offers nothing.
-abbrev pub OffersInside : Job → Step → Type 0
-OffersInside j s = OffersInsideOf (problem_of j) s
+abbrev pub OffersInside : Problem → Step → Type 0
+OffersInside P Refused = Unit {0}
+OffersInside P Stuck = Unit {0}
+OffersInside P (Found o ch) = InBounds P (take P.ropes o.point) × (all_within 16777216 (take P.rows o.multipliers) ≡ true)

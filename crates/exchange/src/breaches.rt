@@ -2,7 +2,7 @@
 ghost use Rattle.std.specs.Prelude.{◌≡◌, ◌^◌, ◌<◌, ◌≤◌, unsigned_abs};
 ghost use Rattle.job.specs.Numbers.{problem_of};
 ghost use Rattle.exchange.specs.Members.{Of};
-ghost use Rattle.exchange.specs.Breaches.{holds as holds_of, value_at, breach as breach_of, worse as worse_of, worst_row, worst as worst_of};
+ghost use Rattle.exchange.specs.Breaches.{holds as holds_of, value_at, breach as breach_of, worse as worse_of, worst as worst_of};
 
 use crate::members::{Breach, Limit, Member, Side};
 use crate::rounded::Rounded;
@@ -69,8 +69,9 @@ impl Rounded<'_> {
         }
     }
 
-    fn worst_row(&self) -> Breach
-        ensures { result ≡ worst_row (problem_of self.now.job.now) self.now.members.now self.now.pulls.now }
+    /// The limit that the point breaks most, among those that are not held: rows before bounds at a draw.
+    pub(crate) fn worst(&self) -> Breach
+        ensures { result ≡ worst_of (problem_of self.now.job.now) self.now.members.now self.now.pulls.now }
     {
         let mut best = Breach {
             ticks: 0,
@@ -82,14 +83,6 @@ impl Rounded<'_> {
         for i in 0..self.job.rows {
             best = self.worse(best, Limit::Row(i));
         }
-        best
-    }
-
-    /// The limit that the point breaks most, among those that are not held.
-    pub(crate) fn worst(&self) -> Breach
-        ensures { result ≡ worst_of (problem_of self.now.job.now) self.now.members.now self.now.pulls.now }
-    {
-        let mut best = self.worst_row();
         for j in 0..self.job.ropes {
             best = self.worse(best, Limit::Bound(j));
         }

@@ -21,8 +21,8 @@ impl Rounded<'_> {
         ensures { result ≡ most_wrong self.now.members.now self.now.pressures.now }
     {
         let mut most = Wrong { size: 0, place: 0 };
-        for (k, member) in self.members.iter().enumerate() {
-            let size = wrongness(member.side, self.pressures[k]);
+        for (k, (member, pressure)) in self.members.iter().zip(self.pressures).enumerate() {
+            let size = wrongness(member.side, *pressure);
             if size > most.size {
                 most = Wrong { size, place: k };
             }

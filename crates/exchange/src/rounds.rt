@@ -20,10 +20,13 @@ pub(crate) fn rounded(unknowns: &[f64]) -> [i64; 16]
     whole
 }
 
-fn in_parts(unknowns: &[f64; 32]) -> [f64; 32]
-    ensures { result ≡ map in_parts_of unknowns.now }
+// (in place: `map` of an array copies it four times)
+fn in_parts(unknowns: &mut [f64])
+    ensures { unknowns.new ≡ map in_parts_of unknowns.old }
 {
-    unknowns.map(|y| y * SCALE)
+    for y in unknowns.iter_mut() {
+        *y *= SCALE;
+    }
 }
 
 /// The m unknowns after the first n, in 256ths, rounded.
@@ -32,5 +35,7 @@ pub(crate) fn pressures_of(unknowns: &[f64; 32], n: usize, m: usize) -> [i64; 16
     requires members { m ≤ 16 }
     ensures { result ≡ filled 16 (pressed (take m (drop n unknowns.now))) }
 {
-    rounded(&in_parts(unknowns)[n..n + m])
+    let mut parts = *unknowns;
+    in_parts(&mut parts);
+    rounded(&parts[n..n + m])
 }

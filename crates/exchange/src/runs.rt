@@ -34,6 +34,18 @@ impl Exchange {
             0.0
         }
     }
+
+    fn report(&self, steps: usize, end: End) -> Report
+        ensures steps { result.steps ≡ steps }
+        ensures end { result.end ≡ end }
+        ensures smallest { result.smallest ≡ reported self.now.smallest }
+    {
+        Report {
+            steps,
+            end,
+            smallest: self.smallest_pivot(),
+        }
+    }
 }
 
 /// Runs an exchange of the job for at most so many steps, and says how it went. Want of memory is found before the first step.
@@ -46,16 +58,8 @@ pub fn run(heap: Global, job: &Job, budget: usize) -> Result<Report, AllocError>
     for k in 0..budget {
         let step = exchange.step(job);
         if let Some(end) = end_after(step) {
-            return Ok(Report {
-                steps: k + 1,
-                end,
-                smallest: exchange.smallest_pivot(),
-            });
+            return Ok(exchange.report(k + 1, end));
         }
     }
-    Ok(Report {
-        steps: budget,
-        end: End::Spent,
-        smallest: exchange.smallest_pivot(),
-    })
+    Ok(exchange.report(budget, End::Spent))
 }

@@ -1,11 +1,11 @@
 //! One step after another.
 ghost use Rattle.std.specs.Prelude.{◌≡◌, ℕ, ◌+◌, ◌<◌, ◌≤◌, true, List, [], length, take, IfOk, Float};
-ghost use Rattle.job.specs.Numbers.{problem_of};
+ghost use Rattle.job.specs.Numbers.{has_sizes, problem_of};
 ghost use Rattle.elimination.specs.Lines.{at, inside, largest};
 ghost use Rattle.exchange.specs.Systems.{size_of};
 ghost use Rattle.exchange.specs.Choice.{ChosenWell};
 ghost use Rattle.exchange.specs.Offers.{offered, pulls_of};
-ghost use Rattle.exchange.specs.Steps.{changed, Follows, choice_at, fits, step_of, smallest_after, members_after, OffersInside};
+ghost use Rattle.exchange.specs.Steps.{changed, Follows, choice_at, step_of, smallest_after, members_after, OffersInside};
 
 use crate::exchanges::Exchange;
 use crate::members::{Choice, Offer, Step};
@@ -57,7 +57,7 @@ impl Exchange {
     }
 
     fn is_for(&self, job: &Job) -> bool
-        ensures { result ≡ fits (problem_of job.now) self.now.ropes self.now.rows }
+        ensures { result ≡ has_sizes (problem_of job.now) self.now.ropes self.now.rows }
     {
         job.ropes == self.ropes && job.rows == self.rows
     }
@@ -89,7 +89,7 @@ impl Exchange {
             ≡ smallest_after (problem_of job.now) self.old.ropes self.old.rows self.old.members.items self.old.smallest }
         ensures ropes { self.new.ropes ≡ self.old.ropes }
         ensures rows { self.new.rows ≡ self.old.rows }
-        ensures law { OffersInside job.now result }
+        ensures law { OffersInside (problem_of job.now) result }
         ensures choice { (us : List Float) → ChosenWell (problem_of job.now) self.old.members.items
             (pulls_of (problem_of job.now) us) (choice_at (problem_of job.now) self.old.members.items us) }
     {

@@ -40,7 +40,7 @@ returns-in-Some c =
     v.smallest c.in-Some.end h.smallest c.in-Some.ensures in
     let q = ap (λ (x : Run). x.steps) t in
     record {
-      value = (omega (arith, q, i.2), sym (ap (λ (x : Run). x.ending) t) ∙ i.3, c.smallest_pivot.ensures ∙ ap reported (sym (ap (λ (x : Run). x.smallest) t) ∙ i.4));
+      value = (omega (arith, c.report.ensures.steps, q, i.2), c.report.ensures.end ∙ sym (ap (λ (x : Run). x.ending) t) ∙ i.3, c.report.ensures.smallest ∙ ap reported (sym (ap (λ (x : Run). x.smallest) t) ∙ i.4));
       law = lawful_run P B;
     }
 
@@ -53,6 +53,6 @@ returns c =
     let t = run_spent P B c.loop-k.k (vec_items e.members) e.smallest c.loop-k-test.false in
     let q = ap (λ (x : Run). x.steps) t in
     record {
-      value = (omega (arith, q, i.2), sym (ap (λ (x : Run). x.ending) t) ∙ i.3, c.smallest_pivot-2.ensures ∙ ap reported (sym (ap (λ (x : Run). x.smallest) t) ∙ i.4));
+      value = (omega (arith, c.report-2.ensures.steps, q, i.2), c.report-2.ensures.end ∙ sym (ap (λ (x : Run). x.ending) t) ∙ i.3, c.report-2.ensures.smallest ∙ ap reported (sym (ap (λ (x : Run). x.smallest) t) ∙ i.4));
       law = lawful_run P B;
     }

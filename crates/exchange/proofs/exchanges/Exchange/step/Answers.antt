@@ -5,8 +5,7 @@ use Rattle.job.specs.Numbers.{problem_of}
 use Rattle.elimination.specs.Lines.{padded, Solves}
 use Rattle.exchange.specs.Systems.{size_of}
 use Rattle.exchange.specs.Offers.{offered, pulls_of, pressures_of}
-use Rattle.exchange.specs.Steps.{Follows, choice_at, solved_at}
-use Rattle.exchange.specs.ProblemOffers.{OffersInside}
+use Rattle.exchange.specs.Steps.{Follows, choice_at, solved_at, OffersInside}
 use Rattle.exchange.specs.declared.members.Choice.{Choice}
 use Rattle.exchange.specs.declared.members.Member.{Member}
 use Rattle.exchange.specs.declared.members.Offer.{Offer}
