@@ -1,8 +1,9 @@
--- An amendment that is allowed, as a whole.
-use Rattle.std.proofs.Common.{◌≡◌, Bool, List, ℤ, None, Ok, Option, sym, ap, ◌∙◌}
+-- An amendment as a whole, refused or allowed.
+use Rattle.std.proofs.Common.{◌≡◌, Bool, List, ℤ, None, Ok, Err, Option, sym, ap, ◌∙◌}
 use Rattle.duality.specs.Lists.{places}
 use Rattle.opening.specs.declared.refusal.Refusal.{Refusal}
-use Rattle.evaluate.specs.Stated.{Numbers, stated}
+use Rattle.terms.specs.Numbers.{Numbers}
+use Rattle.evaluate.specs.Stated.{stated}
 use Rattle.evaluate.specs.Findings.{feasible}
 use Rattle.evaluate.specs.Floors.{refuting}
 use Rattle.calls.specs.declared.answers.Amendment.{Amendment}
@@ -10,6 +11,11 @@ use Rattle.calls.specs.declared.answers.Dropped.{Dropped}
 use Rattle.calls.specs.States.{State, with_numbers}
 use Rattle.calls.specs.Refusing.{amend_refusal}
 use Rattle.calls.specs.Steps.{unless, amendment, standing, cleared, renumbered, was_dropped, dropped_from, if_allowed, amended, amend_answer}
+use Rattle.plan.proofs.Refused.{refused_for}
+
+-- what was refused is not done
+pub not_done : {X Y : Type 0} (o : Option Refusal) (v : X) (e : Refusal) (done before : Y) → Err e ≡ unless o v → if_allowed o done before ≡ before
+not_done o v e done before q = ap (λ (p : Option Refusal). if_allowed p done before) (refused_for o v e q)
 
 -- s is the state before; x, p and q are the numbers after, and what is then held
 module _ (s : State) (m : Amendment) (x : Numbers) (p q : Option (List ℤ)) (allowed : amend_refusal s.numbers m ≡ None)

@@ -7,8 +7,8 @@ use Rattle.duality.specs.Problem.{Problem}
 use Rattle.duality.specs.Tests.{all, between}
 use Rattle.duality.proofs.Tests.{all_from, between_from, ordered_at}
 use Rattle.table.specs.Grid.{Grid}
-use Rattle.evaluate.specs.Stated.{Numbers}
-use Rattle.evaluate.specs.declared.terms.Terms.{Terms}
+use Rattle.terms.specs.Numbers.{Numbers}
+use Rattle.terms.specs.declared.numbers.Terms.{Terms}
 use Rattle.job.specs.Bounds.{is_in_bounds}
 use Rattle.job.specs.Numbers.{problem}
 use Rattle.reading.specs.Plain.{plain}

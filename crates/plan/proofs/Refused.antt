@@ -5,18 +5,22 @@ use Rattle.std.specs.Option.{IsSome}
 use Rattle.std.specs.Result.{IsErr}
 use Rattle.duality.specs.Tests.{answer}
 use Rattle.opening.specs.declared.refusal.Refusal.{Refusal}
+use Rattle.opening.proofs.Firsts.{none_of}
 use Rattle.calls.specs.Steps.{unless}
 use Rattle.calls.specs.Lawful.{RefusesUnlawful}
 
-pub refused_is : {X : Type 0} (o : Option Refusal) (e : Refusal) (v : X) → Some e ≡ o → Err e ≡ unless o v
-refused_is o e v q = ap (λ p. unless p v) q
+-- an answer that refuses tells the reason
+pub refused_for : {X : Type 0} (o : Option Refusal) (v : X) (e : Refusal) → Err e ≡ unless o v → o ≡ Some e
+refused_for None v e q = let z : ◌≡◌ {A = ℕ} 0 1 = cc in absurd (omega arith)
+refused_for (Some r) v e q = let z : e ≡ r = cc in ap Some (sym z)
 
-pub allowed_is : {X : Type 0} (o : Option Refusal) (v w : X) → None ≡ o → w ≡ v → Ok w ≡ unless o v
-allowed_is o v w q r = ap Ok r ∙ ap (λ p. unless p v) q
+-- the answer is the same in another place where the same is refused
 
-pub allowed_none : {X : Type 0} (o : Option Refusal) (v w : X) → Ok w ≡ unless o v → o ≡ None
-allowed_none None v w e = refl
-allowed_none (Some r) v w e = let z : ◌≡◌ {A = ℕ} 0 1 = cc in absurd (omega arith)
+pub refused_same : {X Y : Type 0} (o : Option Refusal) (v : X) (w : Y) (e : Refusal) → Err e ≡ unless o v → Err e ≡ unless o w
+refused_same o v w e q = sym (ap (λ p. unless p w) (refused_for o v e q))
+
+pub allowed_same : {X Y : Type 0} (o : Option Refusal) (v u : X) (w y : Y) → Ok u ≡ unless o v → y ≡ w → Ok y ≡ unless o w
+allowed_same o v u w y q r = ap Ok r ∙ sym (ap (λ p. unless p w) (none_of o v u q))
 
 pub some_of : {X : Type 0} (b : Bool) (v : X) (r : Option X) → r ≡ answer b v → b ≡ true → IsSome r
 some_of true v r e h = ap is_some e

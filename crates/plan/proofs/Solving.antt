@@ -3,7 +3,7 @@ use Rattle.std.proofs.Common.{◌≡◌, ℕ, suc, ◌+◌, ◌-◌, true, List,
 use lib.Ieee.{Float}
 use Rattle.duality.specs.Problem.{Problem}
 use Rattle.elimination.specs.Lines.{largest}
-use Rattle.evaluate.specs.Stated.{Numbers}
+use Rattle.terms.specs.Numbers.{Numbers}
 use Rattle.job.specs.Bounds.{is_in_bounds}
 use Rattle.job.proofs.Holding.{in_bounds_in}
 use Rattle.exchange.specs.declared.members.Offer.{Offer as Found}

@@ -2,7 +2,7 @@
 ghost use Rattle.std.specs.Prelude.{◌≡◌, true, vec_len};
 ghost use Rattle.duality.specs.Lists.{places};
 ghost use Rattle.table.specs.Grid.{Grid};
-ghost use Rattle.evaluate.specs.Terms.{problem_of};
+ghost use Rattle.evaluate.specs.Stated.{problem_of};
 ghost use Rattle.evaluate.specs.Findings.{feasible};
 ghost use Rattle.evaluate.specs.Floors.{refuting};
 ghost use Rattle.calls.specs.Steps.{standing, was_dropped, amend_answer, amended};
@@ -16,9 +16,14 @@ use evaluate::{Terms, is_feasible, refutes};
 use opening::Refusal;
 use reasons::amend_terms;
 use table::Table;
+use terms::{MOST_ROPES, MOST_ROWS};
 
 /// Drops a held point that now breaks a row or a bound, and says whether it did.
-fn drop_broken<T: Table>(a: &T, terms: &Terms, point: &mut Option<ArrayVec<i64, 16>>) -> bool
+fn drop_broken<T: Table>(
+    a: &T,
+    terms: &Terms,
+    point: &mut Option<ArrayVec<i64, MOST_ROPES>>,
+) -> bool
     requires { held_within (vec_len terms.now.c) 32768 point.old ≡ true }
     ensures value { (g : Grid) → held point.new
         ≡ standing (λ x. feasible (problem_of g (T.Table.meant a.now) terms.now) (places x)) (held point.old) }
@@ -31,7 +36,7 @@ fn drop_broken<T: Table>(a: &T, terms: &Terms, point: &mut Option<ArrayVec<i64, 
 }
 
 /// Drops a held proof that no longer refutes, and says whether it did.
-fn drop_stale<T: Table>(a: &T, terms: &Terms, proof: &mut Option<ArrayVec<i64, 32>>) -> bool
+fn drop_stale<T: Table>(a: &T, terms: &Terms, proof: &mut Option<ArrayVec<i64, MOST_ROWS>>) -> bool
     requires { held_within (vec_len terms.now.lo) 16777216 proof.old ≡ true }
     ensures value { (g : Grid) → held proof.new
         ≡ standing (λ x. refuting (problem_of g (T.Table.meant a.now) terms.now) (places x)) (held proof.old) }
@@ -52,9 +57,7 @@ impl<G: Table, A: Table> Plan<G, A> {
         ensures answer { result ≡ amend_answer (view G.Table.meant A.Table.meant self.old) amendment }
         ensures after { view G.Table.meant A.Table.meant self.new ≡ amended (view G.Table.meant A.Table.meant self.old) amendment }
     {
-        if let Some(refusal) = amend_terms(&mut self.terms, amendment) {
-            return Err(refusal);
-        }
+        amend_terms(&mut self.terms, amendment)?;
         Ok(Dropped {
             point: drop_broken(&self.a, &self.terms, &mut self.point),
             proof: drop_stale(&self.a, &self.terms, &mut self.proof),

@@ -4,11 +4,11 @@ ghost use Rattle.duality.specs.Lists.{places};
 ghost use Rattle.duality.specs.Problem.{cost as cost_of};
 ghost use Rattle.duality.specs.Tests.{many_within};
 ghost use Rattle.calls.specs.States.{problem, floor_of};
-ghost use Rattle.plan.specs.View.{view};
+ghost use Rattle.plan.specs.View.{pair_of, view};
 
 use crate::state::Plan;
 use arrayvec::ArrayVec;
-use evaluate::{cost, floor};
+use evaluate::{Pair, cost, floor};
 use table::Table;
 
 /// A copy of a list that is known to fit.
@@ -27,13 +27,13 @@ impl<G: Table, A: Table> Plan<G, A> {
         cost(&self.g, &self.terms, z).unwrap()
     }
 
-    pub(crate) fn floor_of(&self, p: &[i64], y: &[i64]) -> i128
-        requires point { many_within (vec_len self.now.terms.c) 32768 p.now ≡ true }
-        requires multipliers { many_within (vec_len self.now.terms.lo) 16777216 y.now ≡ true }
-        ensures value { result ≡ floor_of (problem (view G.Table.meant A.Table.meant self.now)) (record { point = p.now; multipliers = y.now }) }
+    pub(crate) fn floor_of(&self, pair: Pair) -> i128
+        requires point { many_within (vec_len self.now.terms.c) 32768 pair.point.now ≡ true }
+        requires multipliers { many_within (vec_len self.now.terms.lo) 16777216 pair.multipliers.now ≡ true }
+        ensures value { result ≡ floor_of (problem (view G.Table.meant A.Table.meant self.now)) (pair_of pair.entry) }
         ensures small { unsigned_abs result ≤ 2 ^ 122 }
     {
-        floor(&self.g, &self.a, &self.terms, p, y).unwrap()
+        floor(&self.g, &self.a, &self.terms, pair).unwrap()
     }
 
     /// The floor of the pair that is held.
@@ -41,7 +41,10 @@ impl<G: Table, A: Table> Plan<G, A> {
         ensures value { result ≡ floor_of (problem (view G.Table.meant A.Table.meant self.now)) (view G.Table.meant A.Table.meant self.now).pair }
         ensures small { unsigned_abs result ≤ 2 ^ 122 }
     {
-        self.floor_of(&self.pair.point, &self.pair.multipliers)
+        self.floor_of(Pair {
+            point: &self.pair.point,
+            multipliers: &self.pair.multipliers,
+        })
     }
 }
 

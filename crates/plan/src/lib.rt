@@ -14,5 +14,6 @@ mod solves;
 mod state;
 
 pub use calls::{Amendment, Dropped, Found, Report, Shown, Verdict};
+pub use evaluate::Pair;
 pub use opening::{Lists, Refusal};
 pub use state::Plan;

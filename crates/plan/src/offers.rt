@@ -3,13 +3,14 @@ ghost use Rattle.std.specs.Prelude.{◌≡◌, is_ok, Decides};
 ghost use Rattle.calls.specs.States.{problem};
 ghost use Rattle.calls.specs.Steps.{verdict as verdict_of, point_answer, pointed, pair_answer, paired, proof_answer, proven};
 ghost use Rattle.calls.specs.Lawful.{LawfulPoint, LawfulPair, LawfulProof};
-ghost use Rattle.plan.specs.View.{view};
+ghost use Rattle.plan.specs.View.{pair_of, view};
 
 use crate::evaluates::copied;
 use crate::state::{HeldPair, Plan};
 use calls::Verdict;
+use evaluate::Pair;
 use opening::Refusal;
-use reasons::{pair_refusal, point_refusal, proof_refusal};
+use reasons::{check_pair, check_point, check_proof};
 use table::Table;
 
 fn verdict(better: bool) -> Verdict
@@ -26,9 +27,7 @@ impl<G: Table, A: Table> Plan<G, A> {
     fn judge_point(&self, z: &[i64]) -> Result<Verdict, Refusal>
         ensures { result ≡ point_answer (view G.Table.meant A.Table.meant self.now) z.now }
     {
-        if let Some(refusal) = point_refusal(&self.a, &self.terms, z) {
-            return Err(refusal);
-        }
+        check_point(&self.a, &self.terms, z)?;
         let better = match &self.point {
             Some(held) => self.cost_of(z) < self.cost_of(held),
             None => true,
@@ -52,31 +51,29 @@ impl<G: Table, A: Table> Plan<G, A> {
         Ok(verdict)
     }
 
-    fn judge_pair(&self, p: &[i64], y: &[i64]) -> Result<Verdict, Refusal>
-        ensures { result ≡ pair_answer (view G.Table.meant A.Table.meant self.now) (record { point = p.now; multipliers = y.now }) }
+    fn judge_pair(&self, pair: Pair) -> Result<Verdict, Refusal>
+        ensures { result ≡ pair_answer (view G.Table.meant A.Table.meant self.now) (pair_of pair.entry) }
     {
-        if let Some(refusal) = pair_refusal(&self.terms, p, y) {
-            return Err(refusal);
-        }
-        Ok(verdict(self.held_floor() < self.floor_of(p, y)))
+        check_pair(&self.terms, pair)?;
+        Ok(verdict(self.held_floor() < self.floor_of(pair)))
     }
 
     /// Offers a pair: a point, which may break rows and bounds, and a multiplier in 256ths for each row. It is taken if its floor is higher.
     ///
     /// It is refused exactly if it is not lawful: a wrong length, the point's first, or a number beyond its limit, ±32,768 in the point and
     /// ±16,777,216 in the multipliers. A refusal leaves the plan as it stood.
-    pub fn floor(&mut self, p: &[i64], y: &[i64]) -> Result<Verdict, Refusal>
-        ensures answer { result ≡ pair_answer (view G.Table.meant A.Table.meant self.old) (record { point = p.now; multipliers = y.now }) }
+    pub fn floor(&mut self, pair: Pair) -> Result<Verdict, Refusal>
+        ensures answer { result ≡ pair_answer (view G.Table.meant A.Table.meant self.old) (pair_of pair.entry) }
         ensures after { view G.Table.meant A.Table.meant self.new
-            ≡ paired (view G.Table.meant A.Table.meant self.old) (record { point = p.now; multipliers = y.now }) }
+            ≡ paired (view G.Table.meant A.Table.meant self.old) (pair_of pair.entry) }
         ensures lawful { Decides (is_ok result) (LawfulPair (problem (view G.Table.meant A.Table.meant self.old))
-            (record { point = p.now; multipliers = y.now })) }
+            (pair_of pair.entry)) }
     {
-        let verdict = self.judge_pair(p, y)?;
+        let verdict = self.judge_pair(pair)?;
         if verdict == Verdict::Taken {
             self.pair = HeldPair {
-                point: copied(p),
-                multipliers: copied(y),
+                point: copied(pair.point),
+                multipliers: copied(pair.multipliers),
             };
         }
         Ok(verdict)
@@ -85,9 +82,7 @@ impl<G: Table, A: Table> Plan<G, A> {
     fn judge_proof(&self, y: &[i64]) -> Result<Verdict, Refusal>
         ensures { result ≡ proof_answer (view G.Table.meant A.Table.meant self.now) y.now }
     {
-        if let Some(refusal) = proof_refusal(&self.a, &self.terms, y) {
-            return Err(refusal);
-        }
+        check_proof(&self.a, &self.terms, y)?;
         Ok(verdict(self.proof.is_none()))
     }
 

@@ -1,16 +1,17 @@
 //! Opening a plan.
 ghost use Rattle.std.specs.Prelude.{◌≡◌, ◌≤◌, length, replicate, pos, IfOk, Some};
 ghost use Rattle.opening.specs.Opening.{numbers_of};
-ghost use Rattle.evaluate.specs.Stated.{numbers, numbers_of as terms_of, fitting};
+ghost use Rattle.terms.specs.Numbers.{numbers, numbers_of as terms_of, fitting};
 ghost use Rattle.calls.specs.Opened.{Opens};
 ghost use Rattle.plan.specs.View.{view};
 
 use crate::evaluates::copied;
 use crate::state::{HeldPair, Plan};
 use evaluate::Terms;
-use opening::{Lists, Refusal, opening_fault};
+use opening::{Lists, Refusal, check_opening};
 use std::alloc::{AllocError, Global};
 use table::Table;
+use terms::MOST_ROWS;
 
 /// A point with all multipliers 0.
 fn unweighted(point: &[i64], rows: usize) -> HeldPair
@@ -19,7 +20,7 @@ fn unweighted(point: &[i64], rows: usize) -> HeldPair
     ensures point { result.point.items ≡ point.now }
     ensures multipliers { result.multipliers.items ≡ replicate rows (pos 0) }
 {
-    let zeros = [0i64; 32];
+    let zeros = [0i64; MOST_ROWS];
     HeldPair {
         point: copied(point),
         multipliers: copied(&zeros[..rows]),
@@ -54,9 +55,7 @@ impl<G: Table + Drop, A: Table + Drop> Plan<G, A> {
     pub fn open(heap: Global, g: G, a: A, lists: &Lists) -> Result<Plan<G, A>, Refusal>
         ensures { Opens (view G.Table.meant A.Table.meant) (G.Table.meant g) (A.Table.meant a) (numbers_of lists.now) result }
     {
-        if let Some(fault) = opening_fault(&g, &a, lists) {
-            return Err(fault);
-        }
+        check_opening(&g, &a, lists)?;
         let terms = terms_of(heap, lists.c, lists.l, lists.u, lists.lo, lists.hi)?;
         Ok(Plan {
             g,

@@ -8,7 +8,7 @@ use crate::evaluates::gap_above;
 use crate::state::Plan;
 use calls::{Found, Shown};
 use opening::Refusal;
-use reasons::length_refusal;
+use reasons::check_length;
 use table::Table;
 
 impl<G: Table, A: Table> Plan<G, A> {
@@ -21,9 +21,7 @@ impl<G: Table, A: Table> Plan<G, A> {
         ensures wrote { out.new ≡ shown_in (view G.Table.meant A.Table.meant self.now) out.old }
         ensures law { ShowLaw (view G.Table.meant A.Table.meant self.now) result out.new }
     {
-        if let Some(refusal) = length_refusal(self.terms.c.len(), out.len()) {
-            return Err(refusal);
-        }
+        check_length(self.terms.c.len(), out.len())?;
         let floor = self.held_floor();
         let found = match (&self.proof, &self.point) {
             (Some(_), _) => Found::NoneExists,

@@ -19,8 +19,9 @@ ghost use Rattle.plan.specs.View.{view};
 use crate::proposers::Proposer;
 use crate::state::Plan;
 use calls::Report;
+use evaluate::Pair;
 use exchange::{End, Exchange, Report as Exchanged, Step, end_after};
-use job::{Job, Verdict};
+use job::Job;
 use opening::Refusal;
 use reading::read_job;
 use std::alloc::{AllocError, Global};
@@ -64,9 +65,12 @@ impl<G: Table, A: Table> Plan<G, A> {
         if let Step::Found(offer, _) = step {
             let ropes = self.terms.c.len();
             let rows = self.terms.lo.len();
-            at.copy_from_slice(&offer.point[0..ropes]);
+            at.copy_from_slice(&offer.point[..ropes]);
             let _ = self.point(at);
-            let _ = self.floor(at, &offer.multipliers[0..rows]);
+            let _ = self.floor(Pair {
+                point: at,
+                multipliers: &offer.multipliers[..rows],
+            });
         }
     }
 
@@ -127,7 +131,7 @@ impl<G: Table, A: Table> Plan<G, A> {
         ensures { view G.Table.meant A.Table.meant self.new
             ≡ took_all (view G.Table.meant A.Table.meant self.old) (if_met (judged (problem_of job.now) (places at.now)) at.now) }
     {
-        if let Verdict::Met = job.judge(at) {
+        if job.judge(at).is_ok() {
             let _ = self.point(at);
         }
     }

@@ -6,12 +6,13 @@ ghost use Rattle.plan.specs.Inside.{held_inside, held_within};
 use arrayvec::ArrayVec;
 use evaluate::Terms;
 use table::Table;
+use terms::{MOST_ROPES, MOST_ROWS};
 
 /// A point and a multiplier for each row, kept as one.
 #[derive(Drop)]
 pub(crate) struct HeldPair {
-    pub(crate) point: ArrayVec<i64, 16>,
-    pub(crate) multipliers: ArrayVec<i64, 32>,
+    pub(crate) point: ArrayVec<i64, MOST_ROPES>,
+    pub(crate) multipliers: ArrayVec<i64, MOST_ROWS>,
 }
 
 /// A problem over tables of any kind, with the cheapest point, a proof of none and the pair with the highest floor that were offered.
@@ -23,9 +24,9 @@ pub struct Plan<G: Table, A: Table> {
     pub(crate) a: A,
     pub(crate) terms: Terms,
     /// The cheapest point.
-    pub(crate) point: Option<ArrayVec<i64, 16>>,
+    pub(crate) point: Option<ArrayVec<i64, MOST_ROPES>>,
     /// A proof of none.
-    pub(crate) proof: Option<ArrayVec<i64, 32>>,
+    pub(crate) proof: Option<ArrayVec<i64, MOST_ROWS>>,
     /// The pair whose floor is shown.
     pub(crate) pair: HeldPair,
     ghost inside: { held_inside point terms.l.items terms.u.items ≡ true },

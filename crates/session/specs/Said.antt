@@ -3,6 +3,7 @@ use Rattle.std.specs.Prelude.{vec_items}
 use Rattle.calls.specs.Offers as offers
 use Rattle.calls.specs.Histories as calls
 use Rattle.calls.specs.Runs.{Reply, judged, changed, solved, showed}
+use Rattle.plan.specs.View.{pair_of}
 use Rattle.session.specs.declared.asks.Answer.{Answer}
 use Rattle.session.specs.declared.asks.Answer.TheVariants.{Judged, Amended, Solved, Shown}
 use Rattle.session.specs.declared.asks.Call.{Call}
@@ -10,7 +11,7 @@ use Rattle.session.specs.declared.asks.Call.TheVariants.{Point, Floor, Proof, Am
 
 abbrev pub call_of : Call → calls.Call
 call_of (Point z) = calls.offer (offers.point z.now)
-call_of (Floor p y) = calls.offer (offers.pair (record { point = p.now; multipliers = y.now }))
+call_of (Floor q) = calls.offer (offers.pair (pair_of q))
 call_of (Proof y) = calls.offer (offers.proof y.now)
 call_of (Amend m) = calls.amend m
 call_of (Solve steps moves) = calls.solve steps moves

@@ -1,5 +1,6 @@
 //! What a plan is asked in a run, and what it answers.
 use calls::{Amendment, Dropped, Report, Shown, Verdict};
+use evaluate::Pair;
 use opening::Refusal;
 
 /// A call, with what it is handed.
@@ -8,19 +9,13 @@ pub enum Call<'a> {
     /// Offers a point.
     Point(&'a [i64]),
     /// Offers a pair, a point with a multiplier in 256ths for each row.
-    Floor {
-        point: &'a [i64],
-        multipliers: &'a [i64],
-    },
+    Floor(Pair<'a>),
     /// Offers multipliers as a proof that no point meets every row and bound.
     Proof(&'a [i64]),
     /// Sets the numbers of a row or a rope.
     Amend(Amendment),
     /// Has the exchange and the walk propose, with a budget for each.
-    Solve {
-        steps: u64,
-        moves: u64,
-    },
+    Solve { steps: u64, moves: u64 },
     /// Shows what is known. A copy of the list is written into.
     Show(&'a [i64]),
 }

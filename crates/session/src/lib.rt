@@ -6,5 +6,6 @@ mod runs;
 mod sessions;
 
 pub use asks::{Answer, Call};
+pub use evaluate::Pair;
 pub use runs::run;
 pub use sessions::session;

@@ -37,7 +37,7 @@ fn make<G: Table, A: Table>(
 {
     match call {
         Call::Point(z) => Ok(Answer::Judged(plan.point(z))),
-        Call::Floor { point, multipliers } => Ok(Answer::Judged(plan.floor(point, multipliers))),
+        Call::Floor(pair) => Ok(Answer::Judged(plan.floor(*pair))),
         Call::Proof(y) => Ok(Answer::Judged(plan.proof(y))),
         Call::Amend(amendment) => Ok(Answer::Amended(plan.amend(*amendment))),
         Call::Solve { steps, moves } => make_solve(plan, heap, *steps, *moves),

@@ -1,16 +1,17 @@
 use Rattle.std.proofs.Common.{vec_len, refl, ap, ◌∙◌}
 use Rattle.duality.specs.Tests.{many_within}
+use Rattle.opening.proofs.Firsts.{none_of}
 use Rattle.calls.specs.States.{State, problem}
 use Rattle.calls.proofs.Refused.{proof_refuses}
 use Rattle.plan.specs.View.{view}
 use Rattle.reasons.proofs.Fitting.{proof_many}
-use Rattle.plan.proofs.Refused.{allowed_none, not_ok, decides_lawful}
+use Rattle.plan.proofs.Refused.{not_ok, decides_lawful}
 use Rattle.plan.proofs.state.Plan.proof.Goals as goal
 
 pub invariant_of-self-clause-refuters : goal.invariant_of-self-clause-refuters
 invariant_of-self-clause-refuters g c =
     let s : State = view g.G.Table.meant g.A.Table.meant c.args.self.now in
-    ap (many_within (vec_len c.args.self.now.terms.lo) 16777216) c.copied.ensures ∙ proof_many (problem s) c.args.y.now (allowed_none _ _ _ c.in_ok-verdict.ensures)
+    ap (many_within (vec_len c.args.self.now.terms.lo) 16777216) c.copied.ensures ∙ proof_many (problem s) c.args.y.now (none_of _ _ _ c.in_ok-verdict.ensures)
 
 pub returns-in_err-verdict-clause-lawful : goal.returns-in_err-verdict-clause-lawful
 returns-in_err-verdict-clause-lawful g c =

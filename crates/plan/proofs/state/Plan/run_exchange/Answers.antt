@@ -1,5 +1,5 @@
 use Rattle.std.proofs.Common.{◌+◌, ◌-◌, vec_items, sym, ap, ◌∙◌, arith}
-use Rattle.evaluate.specs.Stated.{Numbers}
+use Rattle.terms.specs.Numbers.{Numbers}
 use Rattle.job.specs.Numbers.{problem_of}
 use Rattle.exchange.specs.Runs.{over, run_from, reported}
 use Rattle.exchange.proofs.Running.{turn_on, turn_over}
