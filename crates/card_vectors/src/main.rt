@@ -56,18 +56,8 @@ fn next_case(input: &mut &[u8], cards: &[&[u8]], buffer: &mut [u8]) -> Option<us
 
 fn report(rt: &HostRuntime, card: &[u8]) -> io::Result<()> {
     match check_card(card) {
-        Ok(sizes) => {
-            let n = sizes.ropes();
-            let m = sizes.rows();
-            println!(rt; "sound {n} {m}")
-        }
-        Err(fault) => {
-            let notice = fault.notice();
-            let number = notice.number;
-            let first = notice.first;
-            let second = notice.second;
-            println!(rt; "refused {number} at {first} {second}")
-        }
+        Ok(sizes) => println!(rt; "sound {} {}", sizes.ropes(), sizes.rows()),
+        Err(fault) => println!(rt; "{fault}"),
     }
 }
 
@@ -77,6 +67,7 @@ fn run_cases(rt: &HostRuntime) -> anyhow::Result<()> {
     let mut input = bytes.as_slice();
     let cards = base_cards(rt.alloc(), &mut input)?;
     let mut buffer = vec![in rt.alloc(); 0u8; MOST]?;
+    // Each case is made in the one buffer, which an iterator over cases could not lend.
     for _ in 0..CASES {
         let Some(len) = next_case(&mut input, cards.as_slice(), buffer.as_mut_slice()) else {
             break;

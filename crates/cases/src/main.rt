@@ -2,9 +2,10 @@
 #![tactic(auto)]
 
 use anyhow::anyhow;
-use card::{CardTable, Contents, Fault, Sizes, check_card};
-use evaluate::{Finding, Terms, cost, first_broken_row, floor, refutes};
-use opening::{Lists, Refusal, opening_fault};
+use card::{CardTable, Contents, Sizes, check_card};
+use evaluate::{Pair, Terms, Unmet, check_rows, cost, floor, refutes};
+use opening::{Lists, Refusal, check_opening};
+use small_job::{LISTS, record};
 use std::alloc::{AllocError, Global};
 use std::io;
 use table::{Flip, Record, Sum, Table, Triplets};
@@ -14,6 +15,7 @@ fn print_table<T: Table>(rt: &HostRuntime, name: &str, table: &T) -> io::Result<
     let height = table.height();
     let width = table.width();
     println!(rt; "{name}: {height} by {width}")?;
+    // A table is asked by place, so its rows and columns are counted.
     for i in 0..height.min(2) {
         for j in 0..width.min(2) {
             match table.place(i, j) {
@@ -33,95 +35,39 @@ fn print_product<T: Table>(rt: &HostRuntime, table: &T, row: usize, xs: &[i64]) 
     }
 }
 
-fn list(heap: Global, numbers: &[i32]) -> Result<Vec<i32>, AllocError> {
-    Vec::from_slice(heap, numbers)
-}
-
 /// The two-rope job: G = (2, 0; 0, 2), c = (-4, -6), bounds 0 to 10, row (1, 1) from 0 to 3, slip 0.
 fn two_ropes(heap: Global) -> Result<Option<Contents>, AllocError> {
     let Some(sizes) = Sizes::new(2, 1) else {
         return Ok(None);
     };
-    let curvature = list(heap, &[2, 0, 0, 2])?;
-    let rows = list(heap, &[1, 1])?;
-    let costs = list(heap, &[-4, -6])?;
-    let bounds = list(heap, &[0, 0, 10, 10])?;
-    let limits = list(heap, &[0, 3])?;
-    let slip = list(heap, &[0, 0, 0, 0])?;
+    let curvature = Vec::from_slice(heap, &[2, 0, 0, 2])?;
+    let rows = Vec::from_slice(heap, &[1, 1])?;
+    let costs = Vec::from_slice(heap, &[-4, -6])?;
+    let bounds = Vec::from_slice(heap, &[0, 0, 10, 10])?;
+    let limits = Vec::from_slice(heap, &[0, 3])?;
+    let slip = Vec::from_slice(heap, &[0, 0, 0, 0])?;
     Ok(Contents::new(sizes, curvature, rows, costs, bounds, limits, slip))
 }
 
-fn print_fault(rt: &HostRuntime, fault: &Fault) -> io::Result<()> {
-    let notice = fault.notice();
-    let number = notice.number;
-    let first = notice.first;
-    let second = notice.second;
-    println!(rt; "refused {number} at {first} {second}")
-}
-
 fn sizes(rt: &HostRuntime) -> io::Result<()> {
-    let records: [Record; 0] = [];
-    let below = Triplets {
-        height: -1,
-        width: 2,
-        records: &records,
-    };
-    print_table(rt, "negative height", &below)?;
-    let above = Triplets {
-        height: 65,
-        width: 1000,
-        records: &records,
-    };
-    print_table(rt, "sizes past 64", &above)
+    print_table(rt, "negative height", &Triplets::new(-1, 2, &[]))?;
+    print_table(rt, "sizes past 64", &Triplets::new(65, 1000, &[]))
 }
 
 fn blank_throughout(rt: &HostRuntime) -> io::Result<()> {
-    let records = [Record {
-        row: 0,
-        column: 0,
-        number: 1048577,
-    }];
-    let blank = Triplets {
-        height: 1,
-        width: 1,
-        records: &records,
-    };
-    print_table(rt, "blank throughout", &blank)
+    let records = [record(0, 0, 1048577)];
+    print_table(rt, "blank throughout", &Triplets::new(1, 1, &records))
 }
 
 fn layers(rt: &HostRuntime, card: &[u8]) -> io::Result<()> {
     let records = [
-        Record {
-            row: 0,
-            column: 1,
-            number: 5,
-        },
-        Record {
-            row: 1,
-            column: 0,
-            number: -7,
-        },
-        Record {
-            row: 0,
-            column: 1,
-            number: 9,
-        },
-        Record {
-            row: 2,
-            column: 0,
-            number: 4,
-        },
-        Record {
-            row: -1,
-            column: 0,
-            number: 3,
-        },
+        record(0, 1, 5),
+        record(1, 0, -7),
+        record(0, 1, 9),
+        record(2, 0, 4),
+        record(-1, 0, 3),
     ];
-    let triplets = Triplets {
-        height: 2,
-        width: 3,
-        records: &records,
-    };
+    let triplets = Triplets::new(2, 3, &records);
     print_table(rt, "records out of range", &triplets)?;
     let sum = Sum {
         left: triplets,
@@ -142,146 +88,74 @@ fn card_tables(rt: &HostRuntime, card: &[u8]) -> io::Result<()> {
     print_table(rt, "a card cut off in G", &cut)
 }
 
-fn print_opening(rt: &HostRuntime, name: &str, fault: Option<Refusal>) -> io::Result<()> {
-    let Some(refusal) = fault else {
-        return println!(rt; "{name}: opens");
-    };
-    let notice = refusal.notice();
-    let number = notice.number;
-    let first = notice.first;
-    let second = notice.second;
-    println!(rt; "{name}: refused {number} at {first} {second}")
+fn print_opening(rt: &HostRuntime, name: &str, opened: Result<(), Refusal>) -> io::Result<()> {
+    match opened {
+        Ok(()) => println!(rt; "{name}: opens"),
+        Err(refusal) => println!(rt; "{name}: {}", refusal.notice()),
+    }
 }
 
-/// A job of n ropes and no rows whose lists are all 0.
-fn open_zeros<G: Table>(heap: Global, g: &G, n: usize) -> Result<Option<Refusal>, AllocError> {
-    let records: [Record; 0] = [];
-    let a = Triplets {
-        height: 0,
-        width: 0,
-        records: &records,
-    };
-    let list = vec![in heap; 0i64; n]?;
-    let slip = vec![in heap; 0i64; n.saturating_mul(n)]?;
-    let none: [i64; 0] = [];
+/// Opens a job of `n` ropes and no rows, with these records of G and lists that are all 0.
+fn open_zeros(rt: &HostRuntime, name: &str, n: i64, records: &[Record]) -> anyhow::Result<()> {
+    let g = Triplets::new(n, n, records);
+    let a = Triplets::new(0, 0, &[]);
+    let ropes = g.height();
+    let list = vec![in rt.alloc(); 0i64; ropes]?;
+    let slip = vec![in rt.alloc(); 0i64; ropes.saturating_mul(ropes)]?;
     let lists = Lists {
         c: list.as_slice(),
         l: list.as_slice(),
         u: list.as_slice(),
-        lo: &none,
-        hi: &none,
+        lo: &[],
+        hi: &[],
         slip: slip.as_slice(),
     };
-    Ok(opening_fault(g, &a, &lists))
+    print_opening(rt, name, check_opening(&g, &a, &lists))?;
+    Ok(())
 }
 
 fn open_sizes(rt: &HostRuntime) -> anyhow::Result<()> {
-    let records: [Record; 0] = [];
-    let sixteen = Triplets {
-        height: 16,
-        width: 16,
-        records: &records,
-    };
-    print_opening(rt, "16 ropes", open_zeros(rt.alloc(), &sixteen, 16)?)?;
-    let seventeen = Triplets {
-        height: 17,
-        width: 17,
-        records: &records,
-    };
-    print_opening(rt, "17 ropes", open_zeros(rt.alloc(), &seventeen, 17)?)?;
-    let most = [Record {
-        row: 0,
-        column: 0,
-        number: 4096,
-    }];
-    let one = Triplets {
-        height: 1,
-        width: 1,
-        records: &most,
-    };
-    print_opening(rt, "4096 in G", open_zeros(rt.alloc(), &one, 1)?)?;
-    let more = [Record {
-        row: 0,
-        column: 0,
-        number: 4097,
-    }];
-    let beyond = Triplets {
-        height: 1,
-        width: 1,
-        records: &more,
-    };
-    print_opening(rt, "4097 in G", open_zeros(rt.alloc(), &beyond, 1)?)?;
-    Ok(())
+    open_zeros(rt, "16 ropes", 16, &[])?;
+    open_zeros(rt, "17 ropes", 17, &[])?;
+    open_zeros(rt, "4096 in G", 1, &[record(0, 0, 4096)])?;
+    open_zeros(rt, "4097 in G", 1, &[record(0, 0, 4097)])
 }
 
 /// G = (1, 2; 2, 4), which no slip of zeros shows to be convex.
 fn open_flat(rt: &HostRuntime, name: &str, slip: &[i64]) -> io::Result<()> {
     let records = [
-        Record {
-            row: 0,
-            column: 0,
-            number: 1,
-        },
-        Record {
-            row: 0,
-            column: 1,
-            number: 2,
-        },
-        Record {
-            row: 1,
-            column: 0,
-            number: 2,
-        },
-        Record {
-            row: 1,
-            column: 1,
-            number: 4,
-        },
+        record(0, 0, 1),
+        record(0, 1, 2),
+        record(1, 0, 2),
+        record(1, 1, 4),
     ];
-    let g = Triplets {
-        height: 2,
-        width: 2,
-        records: &records,
-    };
-    let nothing: [Record; 0] = [];
-    let a = Triplets {
-        height: 0,
-        width: 7,
-        records: &nothing,
-    };
-    let zeros = [0i64, 0];
-    let none: [i64; 0] = [];
+    let g = Triplets::new(2, 2, &records);
+    let a = Triplets::new(0, 7, &[]);
     let lists = Lists {
-        c: &zeros,
-        l: &zeros,
-        u: &zeros,
-        lo: &none,
-        hi: &none,
+        c: &[0, 0],
+        l: &[0, 0],
+        u: &[0, 0],
+        lo: &[],
+        hi: &[],
         slip,
     };
-    print_opening(rt, name, opening_fault(&g, &a, &lists))
+    print_opening(rt, name, check_opening(&g, &a, &lists))
 }
 
 /// The terms of the two-rope job with other limits of its row.
-fn two_rope_terms(heap: Global, lo: i64, hi: i64) -> Result<Option<Terms>, AllocError> {
-    let c = Vec::from_slice(heap, &[-4i64, -6])?;
-    let l = Vec::from_slice(heap, &[0i64, 0])?;
-    let u = Vec::from_slice(heap, &[10i64, 10])?;
+fn two_rope_terms(heap: Global, lo: i64, hi: i64) -> anyhow::Result<Terms> {
+    let c = Vec::from_slice(heap, LISTS.c)?;
+    let l = Vec::from_slice(heap, LISTS.l)?;
+    let u = Vec::from_slice(heap, LISTS.u)?;
     let low = Vec::from_slice(heap, &[lo])?;
     let high = Vec::from_slice(heap, &[hi])?;
-    Ok(Terms::new(c, l, u, low, high))
+    Terms::new(c, l, u, low, high).ok_or_else(|| anyhow!("the two-rope job has other terms"))
 }
 
-fn print_floor(
-    rt: &HostRuntime,
-    card: &[u8],
-    terms: &Terms,
-    p: &[i64],
-    y: &[i64],
-) -> io::Result<()> {
+fn print_floor(rt: &HostRuntime, card: &[u8], terms: &Terms, pair: Pair) -> io::Result<()> {
     let g = CardTable::curvature(card);
     let a = CardTable::rows(card);
-    match floor(&g, &a, terms, p, y) {
+    match floor(&g, &a, terms, pair) {
         Some(v) => println!(rt; "floor {v}"),
         None => println!(rt; "no pair"),
     }
@@ -299,10 +173,10 @@ fn print_refutes(rt: &HostRuntime, card: &[u8], terms: &Terms) -> io::Result<()>
 fn print_point(rt: &HostRuntime, card: &[u8], terms: &Terms, z: &[i64]) -> io::Result<()> {
     let g = CardTable::curvature(card);
     let a = CardTable::rows(card);
-    match first_broken_row(&a, terms, z) {
-        Finding::Kept => print!(rt; "rows kept")?,
-        Finding::Broken(i) => print!(rt; "row {i} broken")?,
-        Finding::NoPoint => print!(rt; "no point")?,
+    match check_rows(&a, terms, z) {
+        Ok(()) => print!(rt; "rows kept")?,
+        Err(Unmet::At(i)) => print!(rt; "row {i} broken")?,
+        Err(Unmet::NoPoint) => print!(rt; "no point")?,
     }
     match cost(&g, terms, z) {
         Some(q) => println!(rt; ", cost {q}"),
@@ -313,21 +187,22 @@ fn print_point(rt: &HostRuntime, card: &[u8], terms: &Terms, z: &[i64]) -> io::R
 /// The two-rope job: what its points cost, what its pairs show, and what refutes it once its row is amended.
 fn evaluations(rt: &HostRuntime, card: &[u8]) -> anyhow::Result<()> {
     let heap = rt.alloc();
-    if let Some(terms) = two_rope_terms(heap, 0, 3)? {
-        print_floor(rt, card, &terms, &[0, 0], &[0])?;
-        print_point(rt, card, &terms, &[1, 2])?;
-        print_point(rt, card, &terms, &[2, 2])?;
-        print_floor(rt, card, &terms, &[1, 2], &[-512])?;
-    }
-    if let Some(terms) = two_rope_terms(heap, 0, 2)? {
-        print_floor(rt, card, &terms, &[1, 2], &[-512])?;
-    }
-    if let Some(terms) = two_rope_terms(heap, 21, 30)? {
-        print_refutes(rt, card, &terms)?;
-    }
-    if let Some(terms) = two_rope_terms(heap, 20, 30)? {
-        print_refutes(rt, card, &terms)?;
-    }
+    let zeros = Pair {
+        point: &[0, 0],
+        multipliers: &[0],
+    };
+    let best = Pair {
+        point: &[1, 2],
+        multipliers: &[-512],
+    };
+    let terms = two_rope_terms(heap, 0, 3)?;
+    print_floor(rt, card, &terms, zeros)?;
+    print_point(rt, card, &terms, &[1, 2])?;
+    print_point(rt, card, &terms, &[2, 2])?;
+    print_floor(rt, card, &terms, best)?;
+    print_floor(rt, card, &two_rope_terms(heap, 0, 2)?, best)?;
+    print_refutes(rt, card, &two_rope_terms(heap, 21, 30)?)?;
+    print_refutes(rt, card, &two_rope_terms(heap, 20, 30)?)?;
     Ok(())
 }
 
@@ -336,7 +211,7 @@ fn zero_bytes(rt: &HostRuntime, len: usize) -> anyhow::Result<()> {
     let bytes = vec![in rt.alloc(); 0u8; len]?;
     match check_card(bytes.as_slice()) {
         Ok(_) => println!(rt; "a card")?,
-        Err(fault) => print_fault(rt, &fault)?,
+        Err(fault) => println!(rt; "{fault}")?,
     }
     Ok(())
 }
@@ -347,14 +222,11 @@ fn run(rt: &HostRuntime) -> anyhow::Result<()> {
     };
     let mut out = vec![in rt.alloc(); 255u8; 3585]?;
     if let Err(fault) = contents.write(&mut out.as_mut_slice()[0..3583]) {
-        print_fault(rt, &fault)?;
+        println!(rt; "{fault}")?;
     }
     match contents.write(out.as_mut_slice()) {
-        Ok(len) => {
-            let past = out[3584];
-            println!(rt; "written {len}, then {past}")?;
-        }
-        Err(fault) => print_fault(rt, &fault)?,
+        Ok(len) => println!(rt; "written {len}, then {}", out[3584])?,
+        Err(fault) => println!(rt; "{fault}")?,
     }
     zero_bytes(rt, 700)?;
     zero_bytes(rt, 512)?;

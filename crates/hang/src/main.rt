@@ -13,10 +13,9 @@ const MOST: u64 = 7681;
 
 /// Prints the sizes of a card, and of each section its letter, its first block and how many numbers it has.
 fn print_sections(rt: &HostRuntime, card: &[u8], sizes: &Sizes) -> io::Result<()> {
-    let ropes = sizes.ropes();
-    let rows = sizes.rows();
-    println!(rt; "ropes {ropes} rows {rows}")?;
+    println!(rt; "ropes {} rows {}", sizes.ropes(), sizes.rows())?;
     let mut first: u16 = 0;
+    // Where the next section begins comes of the length of this one.
     for _ in 0..7 {
         let Some(section) = Section::at(card, first, sizes) else {
             break;
@@ -42,6 +41,7 @@ fn lower_bounds(heap: Global, card: &[u8], sizes: &Sizes) -> Result<Vec<i64>, Al
 /// Prints the sum of each row at the lower bounds, or `blank` where the card has no such sum.
 fn print_sums(rt: &HostRuntime, card: &[u8], lower: &[i64]) -> io::Result<()> {
     let table = CardTable::rows(card);
+    // A table is asked for its rows by number.
     for i in 0..table.height() {
         match table.product(i, lower) {
             Some(sum) => println!(rt; "row {i} sum {sum}")?,
@@ -64,9 +64,7 @@ fn run(rt: &HostRuntime) -> anyhow::Result<()> {
         }
         Err(fault) => {
             let notice = fault.notice();
-            let number = notice.number;
-            let place = notice.first;
-            println!(rt; "refused {number} at {place}")?;
+            println!(rt; "refused {} at {}", notice.number, notice.first)?;
             Err(anyhow!("the card is refused"))
         }
     }

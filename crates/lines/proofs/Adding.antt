@@ -4,7 +4,9 @@ use Rattle.std.specs.Fmt.{signed_decimal}
 use Rattle.std.proofs.lemmas.List.{append_assoc}
 use Rattle.calls.specs.declared.answers.Report.{Report}
 use Rattle.calls.specs.declared.answers.Shown.{Shown}
-use Rattle.lines.specs.Texts.{rest, exchange_word, walk_word, point_lines, found_text, sheet_text}
+use Rattle.exchange.specs.Ends.{name_of as exchange_word}
+use Rattle.walk.specs.Ends.{name_of as walk_word}
+use Rattle.lines.specs.Texts.{rest, point_lines, found_text, sheet_text}
 
 pub adds : (p q r x y : List ℕ) → q ≡ p ++ x → r ≡ q ++ y → r ≡ p ++ (x ++ y)
 adds p q r x y e f = f ∙ ap (λ t. t ++ y) e ∙ append_assoc p x y

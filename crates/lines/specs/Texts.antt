@@ -2,9 +2,9 @@
 use Rattle.std.specs.Prelude.{ℕ, List, [], ◌∷◌, ◌++◌, map, ℤ, codes, decimal}
 use Rattle.std.specs.Fmt.{signed_decimal}
 use Rattle.exchange.specs.declared.members.End.{End as ExchangeEnd}
-use Rattle.exchange.specs.declared.members.End.TheVariants.{Done, Full, Stuck, Spent}
+use Rattle.exchange.specs.Ends.{name_of as exchange_word}
 use Rattle.walk.specs.declared.ends.End.{End as WalkEnd}
-use Rattle.walk.specs.declared.ends.End.TheVariants as walks
+use Rattle.walk.specs.Ends.{name_of as walk_word}
 use Rattle.calls.specs.declared.answers.Found.{Found}
 use Rattle.calls.specs.declared.answers.Found.TheVariants.{NoneExists, Point, NoPoint}
 use Rattle.calls.specs.declared.answers.Report.{Report}
@@ -17,16 +17,6 @@ rest (w ∷ ws) = 32 ∷ (w ++ rest ws)
 
 abbrev pub line : List ℕ → List (List ℕ) → List ℕ
 line w ws = w ++ rest ws
-
-abbrev pub exchange_word : ExchangeEnd → List ℕ
-exchange_word Done = codes "done"
-exchange_word Full = codes "full"
-exchange_word Stuck = codes "stuck"
-exchange_word Spent = codes "spent"
-
-abbrev pub walk_word : WalkEnd → List ℕ
-walk_word walks.Settled = codes "settled"
-walk_word walks.Spent = codes "spent"
 
 abbrev pub exchange_line : ℕ → ExchangeEnd → List ℕ
 exchange_line steps end = line (codes "exchange") (decimal steps ∷ exchange_word end ∷ [])

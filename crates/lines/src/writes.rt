@@ -1,6 +1,8 @@
 //! The text of a sheet and of a refusal.
 ghost use Rattle.std.specs.Prelude.{◌≡◌, ◌+◌, ◌≤◌, [], ◌∷◌, ◌++◌, length, None};
-ghost use Rattle.lines.specs.Texts.{exchange_word, walk_word, floor_line, point_lines, found_text, sheet_text, refusal_text};
+ghost use Rattle.exchange.specs.Ends.{name_of as exchange_word};
+ghost use Rattle.walk.specs.Ends.{name_of as walk_word};
+ghost use Rattle.lines.specs.Texts.{floor_line, point_lines, found_text, sheet_text, refusal_text};
 ghost use Rattle.lines.specs.Answers.{first_far, room_check, sheet_check, answered, list_after};
 ghost use Rattle.lines.specs.Reading.{Legible};
 
@@ -14,6 +16,7 @@ fn exchange_ending(end: exchange::End) -> &'static str
     ensures word { result.now ≡ 32 ∷ (exchange_word end ++ (10 ∷ [])) }
     ensures short { length result.now ≤ 7 }
 {
+    // Not by `Display`, here and below: that a `write!` to the page succeeds would be left open.
     match end {
         exchange::End::Done => " done\n",
         exchange::End::Full => " full\n",

@@ -2,20 +2,14 @@
 #![tactic(auto)]
 
 use calls::{Amendment, Dropped, Found, Report, Shown, Verdict};
-use exchange::End as ExchangeEnd;
 use opening::Refusal;
-use session::{Answer, Call, session};
+use session::{Answer, Call, Pair, session};
 use small_job::{CURVATURE, LISTS, ROW};
 use std::io;
 use table::Triplets;
-use walk::End as WalkEnd;
 
 fn print_refusal(rt: &HostRuntime, refusal: &Refusal) -> io::Result<()> {
-    let notice = refusal.notice();
-    let number = notice.number;
-    let first = notice.first;
-    let second = notice.second;
-    println!(rt; "refused {number} at {first} {second}")
+    println!(rt; "{}", refusal.notice())
 }
 
 fn print_dropped(rt: &HostRuntime, dropped: &Dropped) -> io::Result<()> {
@@ -30,24 +24,14 @@ fn print_dropped(rt: &HostRuntime, dropped: &Dropped) -> io::Result<()> {
 }
 
 fn print_report(rt: &HostRuntime, report: &Report) -> io::Result<()> {
-    let steps = report.steps;
-    let moves = report.moves;
-    let exchange = match report.exchange {
-        ExchangeEnd::Done => "done",
-        ExchangeEnd::Full => "full",
-        ExchangeEnd::Stuck => "stuck",
-        ExchangeEnd::Spent => "spent",
-    };
-    let walk = match report.walk {
-        WalkEnd::Settled => "settled",
-        WalkEnd::Spent => "spent",
-    };
-    println!(rt; "{steps} steps, {exchange}; {moves} moves, {walk}")
+    println!(rt;
+        "{} steps, {}; {} moves, {}",
+        report.steps, report.exchange, report.moves, report.walk
+    )
 }
 
 fn print_shown(rt: &HostRuntime, shown: &Shown, list: &[i64]) -> io::Result<()> {
-    let floor = shown.floor;
-    print!(rt; "floor {floor}")?;
+    print!(rt; "floor {}", shown.floor)?;
     match shown.found {
         Found::NoneExists => print!(rt; ", none exists")?,
         Found::NoPoint => print!(rt; ", no point")?,
@@ -68,10 +52,10 @@ fn print_answer(rt: &HostRuntime, answer: &Answer) -> io::Result<()> {
         Answer::Amended(Ok(dropped)) => print_dropped(rt, dropped),
         Answer::Solved(Ok(report)) => print_report(rt, report),
         Answer::Shown(Ok(shown), list) => print_shown(rt, shown, list.as_slice()),
-        Answer::Judged(Err(refusal)) => print_refusal(rt, refusal),
-        Answer::Amended(Err(refusal)) => print_refusal(rt, refusal),
-        Answer::Solved(Err(refusal)) => print_refusal(rt, refusal),
-        Answer::Shown(Err(refusal), _) => print_refusal(rt, refusal),
+        Answer::Judged(Err(refusal))
+        | Answer::Amended(Err(refusal))
+        | Answer::Solved(Err(refusal))
+        | Answer::Shown(Err(refusal), _) => print_refusal(rt, refusal),
     }
 }
 
@@ -101,10 +85,10 @@ fn run(rt: &HostRuntime) -> anyhow::Result<()> {
         Call::Point(&[1, 2]),
         Call::Show(&[0, 0]),
         Call::Point(&[2, 2]),
-        Call::Floor {
+        Call::Floor(Pair {
             point: &[1, 2],
             multipliers: &[-512],
-        },
+        }),
         Call::Show(&[0, 0]),
         limits(0, 2),
         Call::Show(&[0, 0]),

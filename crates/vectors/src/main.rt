@@ -14,7 +14,7 @@ use std::alloc::{AllocError, Global};
 use std::io;
 use std::io::{BufRead, BufReader};
 use std::num::nearest_i64_to_f64;
-use walk::{End, Walked, walk};
+use walk::{Walked, walk};
 use wire::bits;
 
 fn numbers(heap: Global, line: &str) -> anyhow::Result<Vec<i64>> {
@@ -49,12 +49,7 @@ impl<'a> Line<'a> {
 }
 
 fn print_walk(rt: &HostRuntime, walked: &Walked, point: &[i64]) -> io::Result<()> {
-    let moves = walked.moves;
-    let end = match walked.end {
-        End::Settled => "settled",
-        End::Spent => "spent",
-    };
-    print!(rt; "walk {moves} {end}")?;
+    print!(rt; "walk {} {}", walked.moves, walked.end)?;
     for z in point {
         print!(rt; " {z}")?;
     }
@@ -80,9 +75,7 @@ fn print_solution(rt: &HostRuntime, n: usize, solution: &Solution) -> io::Result
     };
     print!(rt; "solved {smallest}")?;
     for x in unknowns.into_iter().take(n) {
-        let bits = bits(x);
-        let whole = nearest(x);
-        print!(rt; " {bits} {whole}")?;
+        print!(rt; " {} {}", bits(x), nearest(x))?;
     }
     println!(rt; "")
 }
@@ -135,15 +128,12 @@ fn run_walk(rt: &HostRuntime, heap: Global, mut case: Case) -> io::Result<()> {
 }
 
 fn print_report(rt: &HostRuntime, report: &Report) -> io::Result<()> {
-    let steps = report.steps;
-    let end = match report.end {
-        exchange::End::Done => "done",
-        exchange::End::Full => "full",
-        exchange::End::Stuck => "stuck",
-        exchange::End::Spent => "spent",
-    };
-    let smallest = bits(report.smallest);
-    print!(rt; "exchange {steps} {end} {smallest}")
+    print!(rt;
+        "exchange {} {} {}",
+        report.steps,
+        report.end,
+        bits(report.smallest)
+    )
 }
 
 fn print_offer(rt: &HostRuntime, job: &Job, offer: &Offer) -> io::Result<()> {
