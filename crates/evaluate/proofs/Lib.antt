@@ -6,4 +6,5 @@ pub mod Costing
 pub mod Bounding
 pub mod Firsts
 pub mod Slacking
+pub mod Turning
 pub mod Flooring

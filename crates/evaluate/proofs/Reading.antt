@@ -1,5 +1,5 @@
 -- What is read of terms and points: the numbers are small, and a read gives the number at its place.
-use Rattle.std.proofs.Common.{◌≡◌, ℕ, ◌<◌, ◌≤◌, Bool, true, false, eqb, List, length, get_or, ℤ, nat_abs, Some, None, vec_items, vec_len, sym, refl, ap, ◌∙◌, arith, lit<}
+use Rattle.std.proofs.Common.{◌≡◌, ℕ, ◌<◌, ◌≤◌, Bool, true, false, eqb, List, length, get_or, ℤ, nat_abs, Some, None, vec_items, vec_len, sym, ap, ◌∙◌, arith, lit<}
 use Rattle.std.proofs.lemmas.Bool.{and_parts, eqb-true, cond-true}
 use Rattle.duality.specs.Lists.{places}
 use Rattle.duality.specs.Tests.{all_within}
