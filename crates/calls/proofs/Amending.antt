@@ -10,13 +10,13 @@ use Rattle.evaluate.proofs.Firsts.{feasible_decides}
 use Rattle.evaluate.proofs.Flooring.{refutes_decides}
 use Rattle.calls.specs.declared.answers.Amendment.{Amendment}
 use Rattle.calls.specs.declared.answers.Amendment.TheVariants.{Row, Rope, Cost}
-use Rattle.calls.specs.States.{State, problem}
+use Rattle.calls.specs.States.{State, problem, with_numbers}
 use Rattle.calls.specs.Refusing.{amend_refusal}
 use Rattle.calls.specs.Steps.{amendment, standing, cleared, renumbered, if_allowed, amended}
 use Rattle.calls.specs.Lawful.{LawfulPoint, LawfulProof}
 use Rattle.calls.specs.Offers.{Offer}
 use Rattle.calls.specs.Honesty.{Held}
-use Rattle.calls.proofs.Upholding.{Upheld, upheld_for}
+use Rattle.calls.proofs.Upholding.{Upheld, SameTerms, upheld_for}
 
 -- the sizes stay
 
@@ -72,23 +72,10 @@ module _ (t : State) (m : Amendment) where
       at None = upheld_for (λ o since. since.0 refl) (cleared_upheld u)
       at (Some e) = upheld_for (λ o since. since.1) u
 
-  pub amend_g : (amended t m).g ≡ t.g
-  amend_g = at (amend_refusal t.numbers m)
+  -- the tables stay, and so do the numbers if it is refused
+  pub amend_same : SameTerms (amended t m) (with_numbers t (if_allowed (amend_refusal t.numbers m) (amendment t.numbers m) t.numbers))
+  amend_same = at (amend_refusal t.numbers m)
     where
-      at : (r : Option Refusal) → (if_allowed r (cleared (renumbered t m)) t).g ≡ t.g
-      at None = refl
-      at (Some e) = refl
-
-  pub amend_a : (amended t m).a ≡ t.a
-  amend_a = at (amend_refusal t.numbers m)
-    where
-      at : (r : Option Refusal) → (if_allowed r (cleared (renumbered t m)) t).a ≡ t.a
-      at None = refl
-      at (Some e) = refl
-
-  pub amend_numbers : (amended t m).numbers ≡ if_allowed (amend_refusal t.numbers m) (amendment t.numbers m) t.numbers
-  amend_numbers = at (amend_refusal t.numbers m)
-    where
-      at : (r : Option Refusal) → (if_allowed r (cleared (renumbered t m)) t).numbers ≡ if_allowed r (amendment t.numbers m) t.numbers
-      at None = refl
-      at (Some e) = refl
+      at : (r : Option Refusal) → SameTerms (if_allowed r (cleared (renumbered t m)) t) (with_numbers t (if_allowed r (amendment t.numbers m) t.numbers))
+      at None = record { g = refl; a = refl; numbers = refl }
+      at (Some e) = record { g = refl; a = refl; numbers = refl }

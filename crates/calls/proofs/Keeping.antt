@@ -18,7 +18,7 @@ use Rattle.calls.specs.Histories.{Call, offer, amend, solve, show, offers, after
 use Rattle.calls.specs.Honesty.{Held, Fair, problem_after, AlwaysLawful}
 use Rattle.calls.proofs.Upholding.{Upheld, upheld_for}
 use Rattle.calls.proofs.Taking.{offers_upheld, offers_same}
-use Rattle.calls.proofs.Amending.{ropes_stay, amend_upheld, amend_g, amend_a, amend_numbers}
+use Rattle.calls.proofs.Amending.{ropes_stay, amend_upheld, amend_same}
 
 -- a call that does nothing but offer
 pub record OnlyOffers (m : Call) : Type 0 where
@@ -63,10 +63,11 @@ module _ (s : State) (past : List Call) (k : Keeps s past (reached s past)) wher
 
   amend_keeps : (n : Amendment) → Keeps s (amend n ∷ past) (after t (amend n))
   amend_keeps n =
+      let same = amend_same t n in
       record {
-        g = amend_g t n ∙ k.g;
-        a = amend_a t n ∙ k.a;
-        numbers = amend_numbers t n ∙ ap (λ (x : Numbers). if_allowed (amend_refusal x n) (amendment x n) x) k.numbers;
+        g = same.g ∙ k.g;
+        a = same.a ∙ k.a;
+        numbers = same.numbers ∙ ap (λ (x : Numbers). if_allowed (amend_refusal x n) (amendment x n) x) k.numbers;
         upheld =
             upheld_for
             (λ o since.

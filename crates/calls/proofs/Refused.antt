@@ -20,7 +20,7 @@ use Rattle.calls.specs.Lawful.{LawfulPoint, LawfulPair, LawfulProof, RefusesUnla
 
 -- lengths and limits
 
-length_out : (n len : ℕ) → length_refusal n len ≡ None → len ≡ n
+pub length_out : (n len : ℕ) → length_refusal n len ≡ None → len ≡ n
 length_out n len e = eqb-true len n (cond_none (eqb len n) (OfferLength n) e)
 
 length_in : (n len : ℕ) → len ≡ n → length_refusal n len ≡ None
@@ -30,7 +30,7 @@ module _ (limit first : ℕ) (xs : List ℤ) where
   abbrev near_test : ℕ → Bool
   near_test k = within limit (places xs k)
 
-  near_out : limit_refusal limit first xs ≡ None → Near limit xs
+  pub near_out : limit_refusal limit first xs ≡ None → Near limit xs
   near_out e k l = leb-true _ _ (first_none near_test (length xs) k (mapped_none (λ k. OfferLimit (first + k)) (first_not near_test (length xs)) e) l)
 
   near_in : Near limit xs → limit_refusal limit first xs ≡ None

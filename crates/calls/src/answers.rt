@@ -2,7 +2,7 @@
 use exchange::End as ExchangeEnd;
 use walk::End as WalkEnd;
 
-/// What becomes of a lawful offer.
+/// What becomes of a lawful offer. Neither is an error.
 #[derive(Clone, Copy, PartialEq, Eq, Debug)]
 pub enum Verdict {
     /// It is held from now on.
@@ -22,7 +22,7 @@ pub enum Amendment {
     Cost { index: usize, c: i64 },
 }
 
-/// What no longer holds after an amendment, and was dropped.
+/// What no longer holds after an amendment, and was dropped: both, one of the two, or neither.
 #[derive(Clone, Copy, PartialEq, Eq, Debug)]
 pub struct Dropped {
     pub point: bool,

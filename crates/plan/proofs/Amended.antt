@@ -17,6 +17,9 @@ use Rattle.plan.proofs.Refused.{refused_for}
 pub not_done : {X Y : Type 0} (o : Option Refusal) (v : X) (e : Refusal) (done before : Y) → Err e ≡ unless o v → if_allowed o done before ≡ before
 not_done o v e done before q = ap (λ (p : Option Refusal). if_allowed p done before) (refused_for o v e q)
 
+pub kept_numbers : {X : Type 0} (o : Option Refusal) (v : X) (e : Refusal) (done before after : Numbers) → Err e ≡ unless o v → after ≡ if_allowed o done before → after ≡ before
+kept_numbers o v e done before after q h = h ∙ not_done o v e done before q
+
 -- s is the state before; x, p and q are the numbers after, and what is then held
 module _ (s : State) (m : Amendment) (x : Numbers) (p q : Option (List ℤ)) (allowed : amend_refusal s.numbers m ≡ None)
     (set : x ≡ if_allowed (amend_refusal s.numbers m) (amendment s.numbers m) s.numbers)

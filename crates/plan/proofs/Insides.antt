@@ -1,19 +1,17 @@
 -- Points that are held lie inside their bounds.
-use Rattle.std.proofs.Common.{◌≡◌, ℕ, Bool, true, false, cond, eqb, List, length, ℤ, Some, None, Option, refl, arith}
-use Rattle.std.specs.Option.{option_or}
-use Rattle.std.proofs.lemmas.Bool.{and_parts, eqb-true}
+use Rattle.std.proofs.Common.{◌≡◌, ℕ, Bool, true, false, cond, List, length, ℤ, Some, None, Option, refl, arith}
+use Rattle.std.proofs.lemmas.Bool.{and_parts}
 use Rattle.duality.specs.Lists.{places}
 use Rattle.duality.specs.Problem.{Problem}
-use Rattle.duality.specs.Tests.{all, between, first_not, many_within}
-use Rattle.duality.proofs.Tests.{all_from, all_at, first_none}
-use Rattle.opening.specs.declared.refusal.Refusal.TheVariants.{OfferLength}
-use Rattle.opening.proofs.Firsts.{or_none, mapped_none, cond_none}
+use Rattle.duality.specs.Tests.{all, between, many_within}
+use Rattle.duality.proofs.Tests.{all_from, all_at, between_from}
 use Rattle.job.proofs.Reading.{wider}
 use Rattle.arrayvec.specs.ArrayVec.{ArrayVec}
 use Rattle.evaluate.specs.Findings.{keeps_bound, keeps_row, feasible}
 use Rattle.evaluate.proofs.Reading.{many_long}
 use Rattle.calls.specs.Steps.{standing}
-use Rattle.calls.specs.Refusing.{length_refusal, limit_refusal, bound_refusal, row_refusal, point_refusal}
+use Rattle.calls.specs.Refusing.{point_refusal}
+use Rattle.calls.proofs.Refused.{point_refuses}
 use Rattle.plan.specs.Inside.{passes, held_within}
 use Rattle.plan.specs.View.{held}
 
@@ -23,12 +21,11 @@ lies_in P z n = all (λ k. between (P.l k) (P.u k) (places z k)) n
 
 pub point_inside : (P : Problem) (z : List ℤ) → point_refusal P z ≡ None → lies_in P z (length z) ≡ true
 point_inside P z e =
-    let a = or_none (length_refusal P.ropes (length z)) (option_or (limit_refusal 32768 0 z) (option_or (bound_refusal P (places z)) (row_refusal P (places z)))) e in
-    let b = or_none (limit_refusal 32768 0 z) (option_or (bound_refusal P (places z)) (row_refusal P (places z))) a.1 in
-    let c = or_none (bound_refusal P (places z)) (row_refusal P (places z)) b.1 in
-    let n : length z ≡ P.ropes = eqb-true _ _ (cond_none (eqb (length z) P.ropes) (OfferLength P.ropes) a.0) in
-    all_from (keeps_bound P (places z)) (length z)
-    (λ k l. first_none (keeps_bound P (places z)) P.ropes k (mapped_none _ (first_not (keeps_bound P (places z)) P.ropes) c.0) (omega arith))
+    let law = (point_refuses P z).lawful e in
+    let n : length z ≡ P.ropes = law.long in
+    let f = law.feasible in
+    all_from (λ k. between (P.l k) (P.u k) (places z k)) (length z)
+    (λ k l. between_from (P.l k) (P.u k) (places z k) (f.bound_l k (omega arith)) (f.bound_u k (omega arith)))
 
 feasible_lies : (P : Problem) (z : List ℤ) → length z ≡ P.ropes → feasible P (places z) ≡ true → lies_in P z (length z) ≡ true
 feasible_lies P z n f =

@@ -1,23 +1,21 @@
 -- What fits at the opening of a plan.
-use Rattle.std.proofs.Common.{◌≡◌, ℕ, ◌<◌, ◌≤◌, true, eqb, ltb, leb, List, length, replicate, ℤ, pos, nat_abs, Some, None, Err, Result, inl, sym, refl, ap, ◌∙◌, subst, arith}
+use Rattle.std.proofs.Common.{◌≡◌, ℕ, ◌<◌, ◌≤◌, true, ltb, leb, List, length, replicate, ℤ, pos, nat_abs, Some, None, Err, Result, inl, sym, refl, ap, ◌∙◌, subst, arith}
 use lib.ListN.{length-replicate, get_or-replicate}
 use Rattle.std.proofs.lemmas.Bool.{and_from, eq-eqb, le-leb, lt-ltb, cond-true}
 use Rattle.duality.specs.Lists.{places}
-use Rattle.duality.specs.Tests.{within, all_within, in_order, many_within}
+use Rattle.duality.specs.Tests.{in_order, many_within}
 use Rattle.duality.proofs.Tests.{all_from, le_le_z}
 use Rattle.table.specs.Grid.{Grid}
 use Rattle.opening.specs.Opening.{Numbers, open_fault}
-use Rattle.opening.specs.Fits.{Fits, Near, Ordered}
+use Rattle.opening.specs.Fits.{Fits, Ordered}
 use Rattle.opening.proofs.Fitting.{tells_fit}
 use Rattle.terms.specs.Numbers.{numbers, fitting, sizes, limited}
 use Rattle.opening.specs.declared.refusal.Refusal.{Refusal}
 use Rattle.opening.specs.Firsts.{unless}
 use Rattle.calls.specs.States.{State}
 use Rattle.calls.specs.Opened.{Opens}
+use Rattle.reasons.proofs.Fitting.{near_all, near_many}
 use Rattle.plan.proofs.Refused.{refused_for}
-
-near_all : (limit : ℕ) (xs : List ℤ) → Near limit xs → all_within limit xs ≡ true
-near_all limit xs h = all_from (λ k. within limit (places xs k)) (length xs) (λ k l. le-leb _ _ (h k l))
 
 ordered_all : (lows highs : List ℤ) → Ordered lows highs → in_order lows highs ≡ true
 ordered_all lows highs h = all_from _ (length lows) (λ k l. le_le_z (places lows k) (places highs k) (h k l))
@@ -76,14 +74,12 @@ fitting_is g a x e =
 pub zeros_fit : (n k limit : ℕ) (xs : List ℤ) → n ≡ k → xs ≡ replicate k (pos 0) → many_within n limit xs ≡ true
 zeros_fit n k limit xs en ex =
     let long : length xs ≡ k = ap length ex ∙ length-replicate k (pos 0) in
-    and_from (eqb (length xs) n) (all_within limit xs) (eq-eqb _ _ (long ∙ sym en))
-    (near_all limit xs
+    near_many n limit xs (long ∙ sym en)
     (λ i l.
     let z : places xs i ≡ pos 0 = ap (λ (ys : List ℤ). places ys i) ex ∙ get_or-replicate k i (pos 0) (pos 0) (omega (arith, long)) in
-    subst (λ v. nat_abs v ≤ limit) (sym z) (omega arith)))
+    subst (λ v. nat_abs v ≤ limit) (sym z) (omega arith))
 
 pub lower_fit : (g a : Grid) (x : Numbers) → open_fault g a x ≡ None → (n : ℕ) (xs : List ℤ) → n ≡ length x.c → xs ≡ x.l → many_within n 32768 xs ≡ true
 lower_fit g a x e n xs en ex =
     let f = fits_of g a x e in
-    let long : length xs ≡ n = ap length ex ∙ (f.long.l ∙ (sym f.long.c ∙ sym en)) in
-    and_from (eqb (length xs) n) (all_within 32768 xs) (eq-eqb _ _ long) (ap (all_within 32768) ex ∙ near_all 32768 x.l f.limited.l)
+    ap (many_within n 32768) ex ∙ near_many n 32768 x.l (f.long.l ∙ (sym f.long.c ∙ sym en)) f.limited.l

@@ -1,9 +1,7 @@
 -- Answers that are refused or not.
-use Rattle.std.proofs.Common.{◌≡◌, ℕ, Bool, true, false, is_ok, is_some, Some, None, Ok, Err, Decides, Option, Result, sym, refl, ap, ◌∙◌, arith}
+use Rattle.std.proofs.Common.{◌≡◌, ℕ, Bool, true, false, is_ok, Some, None, Ok, Err, Decides, Option, Result, sym, refl, ap, ◌∙◌, arith}
 use Rattle.std.proofs.lemmas.Bool.{both_ways}
-use Rattle.std.specs.Option.{IsSome}
 use Rattle.std.specs.Result.{IsErr}
-use Rattle.duality.specs.Tests.{answer}
 use Rattle.opening.specs.declared.refusal.Refusal.{Refusal}
 use Rattle.opening.proofs.Firsts.{none_of}
 use Rattle.calls.specs.Steps.{unless}
@@ -21,10 +19,6 @@ refused_same o v w e q = sym (ap (λ p. unless p w) (refused_for o v e q))
 
 pub allowed_same : {X Y : Type 0} (o : Option Refusal) (v u : X) (w y : Y) → Ok u ≡ unless o v → y ≡ w → Ok y ≡ unless o w
 allowed_same o v u w y q r = ap Ok r ∙ sym (ap (λ p. unless p w) (none_of o v u q))
-
-pub some_of : {X : Type 0} (b : Bool) (v : X) (r : Option X) → r ≡ answer b v → b ≡ true → IsSome r
-some_of true v r e h = ap is_some e
-some_of false v r e h = cc
 
 ok_none : {X : Type 0} (o : Option Refusal) (v : X) → is_ok (unless o v) ≡ true → o ≡ None
 ok_none None v e = refl

@@ -39,6 +39,7 @@ fn terms_of(
     requires { fitting (numbers c.now l.now u.now lo.now hi.now) ≡ Some (numbers c.now l.now u.now lo.now hi.now) }
     ensures { IfOk result (λ t. terms_of t ≡ numbers c.now l.now u.now lo.now hi.now) }
 {
+    // Terms keep each list on the heap, so each takes its memory here.
     let c = Vec::from_slice(heap, c)?;
     let l = Vec::from_slice(heap, l)?;
     let u = Vec::from_slice(heap, u)?;

@@ -66,6 +66,7 @@ pub fn run<G: Table, A: Table>(
         → HonestAnswers (view G.Table.meant A.Table.meant plan.old) (map call_of calls.now) result }
 {
     let mut answers = Vec::with_capacity(heap, calls.len())?;
+    // A collect would take memory between the calls.
     for call in calls {
         let answer = make(plan, heap, call)?;
         answers.push_reserved(answer);

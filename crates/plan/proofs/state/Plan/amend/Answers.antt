@@ -7,7 +7,7 @@ use Rattle.evaluate.specs.Stated.{problem_of}
 use Rattle.calls.specs.States.{State, with_numbers}
 use Rattle.plan.specs.Inside.{held_inside, held_within}
 use Rattle.plan.specs.View.{view}
-use Rattle.plan.proofs.Amended.{not_done, amend_after, amend_answered}
+use Rattle.plan.proofs.Amended.{not_done, kept_numbers, amend_after, amend_answered}
 use Rattle.plan.proofs.Refused.{refused_same}
 use Rattle.plan.proofs.Insides.{stands_inside}
 use Rattle.plan.proofs.state.Plan.amend.Goals as goal
@@ -15,7 +15,7 @@ use Rattle.plan.proofs.state.Plan.amend.Goals as goal
 pub invariant_of-self : goal.invariant_of-self
 invariant_of-self g c =
     let p = c.args.self.now in
-    let same : numbers_of c.amend_terms.new.terms ≡ numbers_of p.terms = c.in_err-amend_terms.ensures.after ∙ not_done _ _ _ _ _ c.in_err-amend_terms.ensures.answer in
+    let same : numbers_of c.amend_terms.new.terms ≡ numbers_of p.terms = kept_numbers _ _ _ _ _ _ c.in_err-amend_terms.ensures.answer c.in_err-amend_terms.ensures.after in
     record {
       inside = ap (λ (x : Numbers). held_inside p.point x.l x.u) same ∙ p.inside;
       pulls = ap (λ (x : Numbers). held_within x.ropes 32768 p.point) same ∙ p.pulls;
@@ -32,7 +32,7 @@ returns-in_err-amend_terms-clause-answer g c =
 pub returns-in_err-amend_terms-clause-after : goal.returns-in_err-amend_terms-clause-after
 returns-in_err-amend_terms-clause-after g c =
     let s : State = view g.G.Table.meant g.A.Table.meant c.args.self.now in
-    let same = c.in_err-amend_terms.ensures.after ∙ not_done _ _ _ _ _ c.in_err-amend_terms.ensures.answer in
+    let same = kept_numbers _ _ _ _ _ _ c.in_err-amend_terms.ensures.answer c.in_err-amend_terms.ensures.after in
     ap (with_numbers s) same ∙ sym (not_done _ _ _ _ s c.in_err-amend_terms.ensures.answer)
 
 pub invariant_of-self-2-clause-inside : goal.invariant_of-self-2-clause-inside

@@ -1,5 +1,5 @@
-use Rattle.plan.proofs.Refused.{some_of}
+use Rattle.reasons.proofs.Given.{given}
 use Rattle.plan.proofs.state.Plan.cost_of.Goals as goal
 
 pub unwrap-requires : goal.unwrap-requires
-unwrap-requires g c = some_of _ _ _ (c.cost.ensures (g.A.Table.meant c.args.self.now.a)) c.requires
+unwrap-requires g c = given _ _ _ (c.cost.ensures (g.A.Table.meant c.args.self.now.a)) c.requires
