@@ -6,6 +6,7 @@ use Rattle.section.specs.declared.kind.Kind.{Kind}
 use Rattle.section.specs.declared.kind.Kind.TheVariants.{Head, Curvature, Rows, Costs, Bounds, Limits, Slip}
 use Rattle.section.specs.declared.sizes.Sizes.{Sizes}
 use Rattle.card.specs.declared.contents.Contents.{Contents}
+use Rattle.card.specs.declared.contents.Numbers.{Numbers}
 use Rattle.section.specs.Layout.{numbers_for, bytes_for}
 use Rattle.card.specs.Cards.{card_of}
 
@@ -19,9 +20,21 @@ sections s curvature rows costs bounds limits slip Bounds = bounds
 sections s curvature rows costs bounds limits slip Limits = limits
 sections s curvature rows costs bounds limits slip Slip = slip
 
+abbrev pub sections_of : Sizes → Numbers → Kind → List ℤ
+sections_of s y = sections s (vec_items y.curvature) (vec_items y.rows) (vec_items y.costs) (vec_items y.bounds) (vec_items y.limits) (vec_items y.slip)
+
 abbrev pub numbers : Contents → Kind → List ℤ
-numbers x =
-    sections x.sizes (vec_items x.curvature) (vec_items x.rows) (vec_items x.costs) (vec_items x.bounds) (vec_items x.limits) (vec_items x.slip)
+numbers x = sections_of x.sizes x.numbers
+
+-- the numbers after the head by their kind, and none for the head
+abbrev pub part_of : Numbers → Kind → List ℤ
+part_of y Head = []
+part_of y Curvature = vec_items y.curvature
+part_of y Rows = vec_items y.rows
+part_of y Costs = vec_items y.costs
+part_of y Bounds = vec_items y.bounds
+part_of y Limits = vec_items y.limits
+part_of y Slip = vec_items y.slip
 
 -- contents are made of sections that have as many numbers as the sizes ask for, and of no others
 abbrev pub Counted : Sizes → (Kind → List ℤ) → Type 0

@@ -11,6 +11,6 @@ mod writes;
 pub use block::{Fault, Layer, Notice};
 pub use card_table::CardTable;
 pub use checks::check_card;
-pub use contents::Contents;
+pub use contents::{Contents, Numbers};
 pub use section::{Kind, Section, Sizes};
 pub use tried::tried_head_sum;

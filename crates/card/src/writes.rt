@@ -3,10 +3,10 @@ ghost use Rattle.block.specs.Blocks.{Fit};
 ghost use Rattle.section.specs.Layout.{blocks_for, start_of, numbers_for, bytes_for};
 ghost use Rattle.card.specs.Faults.{card_check};
 ghost use Rattle.card.specs.Cards.{run_into, section_into};
-ghost use Rattle.card.specs.Contents.{sections, numbers, Built, written, bytes_needed, write_answer, write_after};
+ghost use Rattle.card.specs.Contents.{sections, sections_of, part_of, numbers, Built, written, bytes_needed, write_answer, write_after};
 ghost use Rattle.card.specs.Laws.{Proper, Reads};
 
-use crate::contents::Contents;
+use crate::contents::{Contents, Numbers};
 use block::{Block, Fault};
 use section::{Kind, Sizes};
 
@@ -42,19 +42,26 @@ fn write_all(out: &mut [u8], x: &Contents)
 {
     let head = [x.sizes.ropes() as i32, x.sizes.rows() as i32];
     write_section(out, Kind::Head, &x.sizes, &head);
-    write_section(out, Kind::Curvature, &x.sizes, x.curvature.as_slice());
-    write_section(out, Kind::Rows, &x.sizes, x.rows.as_slice());
-    write_section(out, Kind::Costs, &x.sizes, x.costs.as_slice());
-    write_section(out, Kind::Bounds, &x.sizes, x.bounds.as_slice());
-    write_section(out, Kind::Limits, &x.sizes, x.limits.as_slice());
-    write_section(out, Kind::Slip, &x.sizes, x.slip.as_slice());
+    for kind in Kind::AFTER_HEAD {
+        write_section(out, kind, &x.sizes, x.numbers.section(kind));
+    }
 }
 
-/// Something where a section has as many numbers as the sizes ask for.
-fn counted(sizes: &Sizes, kind: Kind, numbers: &[i32]) -> Option<()>
-    ensures { MatchOption result (length numbers.now ≢ numbers_for sizes.now kind) (λ _. length numbers.now ≡ numbers_for sizes.now kind) }
-{
-    (numbers.len() == sizes.count(kind) as usize).then_some(())
+impl Numbers {
+    /// The numbers of a section. Those of the head are the sizes, so there are none here.
+    fn section(&self, kind: Kind) -> &[i32]
+        ensures { result.now ≡ part_of self.now kind }
+    {
+        match kind {
+            Kind::Head => &[],
+            Kind::Curvature => self.curvature.as_slice(),
+            Kind::Rows => self.rows.as_slice(),
+            Kind::Costs => self.costs.as_slice(),
+            Kind::Bounds => self.bounds.as_slice(),
+            Kind::Limits => self.limits.as_slice(),
+            Kind::Slip => self.slip.as_slice(),
+        }
+    }
 }
 
 impl Contents {
@@ -70,21 +77,29 @@ impl Contents {
     ) -> Option<Contents>
         ensures { Built result sizes (sections sizes curvature.items rows.items costs.items bounds.items limits.items slip.items) }
     {
-        counted(&sizes, Kind::Curvature, curvature.as_slice())?;
-        counted(&sizes, Kind::Rows, rows.as_slice())?;
-        counted(&sizes, Kind::Costs, costs.as_slice())?;
-        counted(&sizes, Kind::Bounds, bounds.as_slice())?;
-        counted(&sizes, Kind::Limits, limits.as_slice())?;
-        counted(&sizes, Kind::Slip, slip.as_slice())?;
-        Some(Contents {
+        Contents::of(
             sizes,
-            curvature,
-            rows,
-            costs,
-            bounds,
-            limits,
-            slip,
-        })
+            Numbers {
+                curvature,
+                rows,
+                costs,
+                bounds,
+                limits,
+                slip,
+            },
+        )
+    }
+
+    /// The contents of a card from its numbers as one value, if each section has as many as the sizes ask for.
+    pub fn of(sizes: Sizes, numbers: Numbers) -> Option<Contents>
+        ensures { Built result sizes (sections_of sizes numbers) }
+    {
+        for kind in Kind::AFTER_HEAD {
+            if numbers.section(kind).len() != sizes.count(kind) as usize {
+                return None;
+            }
+        }
+        Some(Contents { sizes, numbers })
     }
 
     /// Writes the card and answers how many bytes it has; the bytes past it stay. Refuses a list that is too short, which stays as it is.

@@ -10,7 +10,7 @@ ghost use Rattle.sheet.specs.Writing.{write_answer, write_after};
 ghost use Rattle.sheet.specs.Laws.{Carries};
 
 use crate::numbers::{list_numbers, table_numbers};
-use card::{Contents, Fault, Sizes};
+use card::{Contents, Fault, Numbers, Sizes};
 use opening::{Lists, Refusal, check_opening};
 use std::alloc::{AllocError, Global};
 use table::Table;
@@ -39,13 +39,15 @@ fn contents_of<G: Table, A: Table>(
 {
     let n = sizes.ropes() as usize;
     let m = sizes.rows() as usize;
-    let curvature = table_numbers(heap, g, n, n)?;
-    let rows = table_numbers(heap, a, m, n)?;
-    let costs = list_numbers(heap, lists.c, &[])?;
-    let bounds = list_numbers(heap, lists.l, lists.u)?;
-    let limits = list_numbers(heap, lists.lo, lists.hi)?;
-    let slip = list_numbers(heap, lists.slip, &[])?;
-    Ok(Contents::new(sizes, curvature, rows, costs, bounds, limits, slip).unwrap())
+    let numbers = Numbers {
+        curvature: table_numbers(heap, g, n, n)?,
+        rows: table_numbers(heap, a, m, n)?,
+        costs: list_numbers(heap, lists.c, &[])?,
+        bounds: list_numbers(heap, lists.l, lists.u)?,
+        limits: list_numbers(heap, lists.lo, lists.hi)?,
+        slip: list_numbers(heap, lists.slip, &[])?,
+    };
+    Ok(Contents::of(sizes, numbers).unwrap())
 }
 
 /// Writes the card of a job, and answers how many bytes it has; the bytes past it stay.
