@@ -135,14 +135,12 @@ impl WorkingSet<'_> {
         }
     }
 
-    /// The system of the working set, in the first places of a square.
-    pub(crate) fn system(&self) -> [[f64; 33]; 32]
+    /// Writes the system of the working set into the first places of a square.
+    pub(crate) fn fill_square(&self, lines: &mut [[f64; 33]; 32])
         ensures { seen (size_of (problem_of self.now.job.now) self.now.members.now + 1)
-            (take (size_of (problem_of self.now.job.now) self.now.members.now) result)
+            (take (size_of (problem_of self.now.job.now) self.now.members.now) lines.new)
             ≡ system_of (problem_of self.now.job.now) self.now.members.now }
     {
-        let mut lines = [[0.0; 33]; 32];
         self.fill_lines(&mut lines[..self.size()]);
-        lines
     }
 }
