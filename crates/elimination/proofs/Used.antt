@@ -4,7 +4,7 @@ use lib.Ieee.{Float}
 use Rattle.std.specs.List.{swap}
 use Rattle.std.proofs.lemmas.List.{append_assoc, drop-take, take-take, take_at, get_or-take, get_or-drop, length-take-le, length-append}
 use Rattle.std.proofs.Math.Seq.{take-set-lt}
-use borrow.Rule.Slice.PartMut.{put_mid, mid_of, post_of}
+use borrow.Rule.Slice.PartMut.{mid_of}
 use Rattle.elimination.specs.Lines.{seen, traded}
 use Rattle.elimination.proofs.Steps.{traded_by}
 
@@ -13,12 +13,11 @@ drop_of_take a n xs h =
     let e : a + (n - a) ≡ n = omega arith in
     ap (λ (m : ℕ). drop a (take m xs)) (sym e) ∙ drop-take a (n - a) xs
 
--- after a write to `xs[a..n]`
-pub put_lines : {X : Type 0} (a n : ℕ) (xs ys : List X) → a ≤ n → n ≤ length xs → length ys ≡ n - a → take n (put_mid a (n - a) xs ys) ≡ take a (take n xs) ++ ys
-put_lines a n xs ys h l e =
-    let m : length (take a xs ++ ys) ≡ n = length-append (take a xs) ys ∙ (let t = length-take-le a xs (omega arith) in omega arith) in
-    ap (take n) (sym (append_assoc (take a xs) ys (post_of a (n - a) xs))) ∙ take_at (take a xs ++ ys) (post_of a (n - a) xs) n m
-    ∙ ap (λ z. z ++ ys) (sym (take-take a n xs h))
+-- after a write to the places from a to n, where the list stands in two parts
+pub put_lines : {X : Type 0} (a n : ℕ) (xs fs ys zs : List X) → fs ≡ take a xs → a ≤ n → n ≤ length xs → length ys ≡ n - a → take n (fs ++ (ys ++ zs)) ≡ take a (take n xs) ++ ys
+put_lines a n xs fs ys zs f h l e =
+    let m : length (fs ++ ys) ≡ n = length-append fs ys ∙ (let t = ap length f ∙ length-take-le a xs (omega arith) in omega arith) in
+    ap (take n) (sym (append_assoc fs ys zs)) ∙ take_at (fs ++ ys) zs n m ∙ ap (λ z. z ++ ys) (f ∙ sym (take-take a n xs h))
 
 -- a line that is read in `ls[k..n]`
 pub line_from : (k n i : ℕ) (ls : List (List Float)) → k ≤ n → get_or (mid_of k (n - k) ls) i [] ≡ get_or (take n ls) (k + i) []

@@ -45,8 +45,8 @@ fn clear_below(lines: &mut [[f64; 33]], size: usize, k: usize)
     requires few { size ≤ 32 }
     ensures { seen (size + 1) (take size lines.new) ≡ cleared_below k (seen (size + 1) (take size lines.old)) }
 {
-    let pivot_line = lines[k];
-    clear_lines(&mut lines[k + 1..size], k, &pivot_line[..=size]);
+    let (above, below) = lines.split_at_mut(k + 1);
+    clear_lines(&mut below[..size - k - 1], k, &above[k][..=size]);
 }
 
 /// Clears column k of each line, as far as the pivot's line goes.

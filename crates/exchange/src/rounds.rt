@@ -13,6 +13,7 @@ pub(crate) fn rounded(unknowns: &[f64]) -> [i64; 16]
     requires { length unknowns.now ≤ 16 }
     ensures { result ≡ filled 16 (pulled unknowns.now) }
 {
+    // (an array, and no `Vec`: a step takes no memory)
     let mut whole = [0; 16];
     for (k, x) in unknowns.iter().enumerate() {
         whole[k] = nearest(*x);

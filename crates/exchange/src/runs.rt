@@ -55,6 +55,7 @@ pub fn run(heap: Global, job: &Job, budget: usize) -> Result<Report, AllocError>
     ensures law { LawfulRun budget (exchanged (problem_of job.now) budget) }
 {
     let mut exchange = Exchange::new(heap, job)?;
+    // (k counts the steps begun, which the report says)
     for k in 0..budget {
         let step = exchange.step(job);
         if let Some(end) = end_after(step) {

@@ -100,7 +100,10 @@ impl Exchange {
             job,
             members: &self.members,
         };
-        let solution = solve(set.system(), set.size(), self.smallest);
+        // (written here, where `solve` takes it: a square that a function hands out is copied once more)
+        let mut lines = [[0.0; 33]; 32];
+        set.fill_square(&mut lines);
+        let solution = solve(lines, set.size(), self.smallest);
         self.smallest = solution.smallest;
         let Some(unknowns) = solution.unknowns else {
             return Step::Stuck;

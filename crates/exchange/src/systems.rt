@@ -42,6 +42,7 @@ fn row_weight(job: &Job, i: usize, j: usize) -> i64
     job.a[j * job.rows + i]
 }
 
+// (job and limit stand side by side: a struct of the two would be made anew for each entry)
 fn weight(job: &Job, limit: Limit, j: usize) -> i64
     requires limit { Of job.now.ropes job.now.rows limit }
     requires rope { j < job.now.ropes }
@@ -135,14 +136,12 @@ impl WorkingSet<'_> {
         }
     }
 
-    /// The system of the working set, in the first places of a square.
-    pub(crate) fn system(&self) -> [[f64; 33]; 32]
+    /// Writes the system of the working set into the first places of a square.
+    pub(crate) fn fill_square(&self, lines: &mut [[f64; 33]; 32])
         ensures { seen (size_of (problem_of self.now.job.now) self.now.members.now + 1)
-            (take (size_of (problem_of self.now.job.now) self.now.members.now) result)
+            (take (size_of (problem_of self.now.job.now) self.now.members.now) lines.new)
             ≡ system_of (problem_of self.now.job.now) self.now.members.now }
     {
-        let mut lines = [[0.0; 33]; 32];
         self.fill_lines(&mut lines[..self.size()]);
-        lines
     }
 }

@@ -1,4 +1,4 @@
-use Rattle.std.proofs.Common.{◌≡◌, ◌++◌, map, get_or, set, ap, ◌∙◌, arith}
+use Rattle.std.proofs.Common.{get_or, set, ap, ◌∙◌, arith}
 use lib.Ieee.{nan, binary64, mul}
 use Rattle.std.proofs.lemmas.List.Edits.{map_over_more}
 use Rattle.std.proofs.lemmas.List.{take_all, drop_all, append-nil, get_or_default}

@@ -2,8 +2,6 @@ use Rattle.std.proofs.Common.{◌≡◌, ℕ, length, drop, None, sym, refl, ap,
 use Rattle.std.proofs.lemmas.Int.{to_z-of_z}
 use Rattle.std.proofs.lemmas.Slice.Zip.{either_empty_from_Zip}
 use Rattle.std.specs.Iterator.Adapters.{enumerate_source, enumerate_count}
-use Rattle.duality.specs.Lists.{places}
-use Rattle.exchange.specs.Systems.{member_at}
 use Rattle.exchange.specs.Breaches.{upto}
 use Rattle.exchange.specs.Choice.{wrongness, more_wrong, unwronged, most_wrong}
 use Rattle.exchange.specs.declared.members.Wrong.{Wrong}
@@ -22,10 +20,9 @@ loop-k-preserved-then-size-most c =
     let i = c.loop-k.invariant in
     let h = c.in-Some.ensures.steps in
     let f : SFits w64 c.in-Some.pressure.now = search rules in
-    let q = c.wrongness-size.ensures ∙ ap (wrongness c.in-Some.member.now.side) (to_z-of_z w64 _ f) ∙ wrong_here ms _ _ ys _ _ c.in-Some.member.now c.in-Some.pressure.now k i.1 h.0.0 i.2 h.0.1 in
-    (
+    let q = c.wrongness-size.ensures ∙ ap (wrongness c.in-Some.member.now.side) (to_z-of_z w64 _ f) ∙ wrong_here ms _ _ ys _ _ c.in-Some.member.now c.in-Some.pressure.now k i.1 h.0.0 i.2 h.0.1 in (
       ap (λ (n : ℕ). make c.wrongness-size.result n) h.1 ∙ wrong_taken ms ys c.loop-k.most k c.wrongness-size.result i.0 q c.if-size-most.true
-      ∙ ap (λ (n : ℕ). upto (more_wrong ms ys) unwronged n) (sym h.2),
+          ∙ ap (λ (n : ℕ). upto (more_wrong ms ys) unwronged n) (sym h.2),
       next_left ms _ _ _ k i.1 h.0.0 ∙ ap (λ (n : ℕ). drop n ms) (sym h.2),
       next_left ys _ _ _ k i.2 h.0.1 ∙ ap (λ (n : ℕ). drop n ys) (sym h.2),
       (let w = next_within ms _ _ _ k i.1 h.0.0 in omega (arith, h.2, w)),
@@ -39,8 +36,7 @@ loop-k-preserved c =
     let i = c.loop-k.invariant in
     let h = c.in-Some.ensures.steps in
     let f : SFits w64 c.in-Some.pressure.now = search rules in
-    let q = c.wrongness-size.ensures ∙ ap (wrongness c.in-Some.member.now.side) (to_z-of_z w64 _ f) ∙ wrong_here ms _ _ ys _ _ c.in-Some.member.now c.in-Some.pressure.now k i.1 h.0.0 i.2 h.0.1 in
-    (
+    let q = c.wrongness-size.ensures ∙ ap (wrongness c.in-Some.member.now.side) (to_z-of_z w64 _ f) ∙ wrong_here ms _ _ ys _ _ c.in-Some.member.now c.in-Some.pressure.now k i.1 h.0.0 i.2 h.0.1 in (
       wrong_left ms ys c.loop-k.most k c.wrongness-size.result i.0 q c.if-size-most.false ∙ ap (λ (n : ℕ). upto (more_wrong ms ys) unwronged n) (sym h.2),
       next_left ms _ _ _ k i.1 h.0.0 ∙ ap (λ (n : ℕ). drop n ms) (sym h.2),
       next_left ys _ _ _ k i.2 h.0.1 ∙ ap (λ (n : ℕ). drop n ys) (sym h.2),
