@@ -1,8 +1,8 @@
 -- A card as it is written: one block more, one section more.
-use Rattle.std.proofs.Common.{◌≡◌, ℕ, zero, suc, ◌+◌, ◌-◌, ◌*◌, ◌<◌, ◌≤◌, List, [], ◌∷◌, ◌++◌, length, get_or, take, drop, ℤ, pos, sym, refl, ap, ◌∙◌, subst, ⊎_elim, arith, w32, SFits}
+use Rattle.std.proofs.Common.{◌≡◌, ℕ, zero, suc, ◌+◌, ◌-◌, ◌*◌, ◌<◌, ◌≤◌, min, List, [], ◌∷◌, ◌++◌, length, get_or, take, drop, ℤ, pos, sym, refl, ap, ◌∙◌, subst, ⊎_elim, arith, w32, SFits}
 use lib.Seq.{paste}
 use borrow.Rule.Slice.PartMut.{put_mid}
-use Rattle.std.proofs.lemmas.List.{get_or-take, get_or-drop, drop_all, append-nil, append_assoc, length-append, length-take, length-drop, drop-drop}
+use Rattle.std.proofs.lemmas.List.{get_or-take, get_or-drop, nil_from_length, take_all, take_at, drop_at, drop_all, append-nil, append_assoc, length-append, length-take, length-drop, drop-drop}
 use Rattle.std.proofs.lemmas.List.Edits.{paste-paste, paste_all}
 use Rattle.std.proofs.lemmas.Slice.{put_mid-paste}
 use Rattle.std.proofs.lemmas.Bool.{cases_lt}
@@ -31,6 +31,23 @@ laid_push letter k nums (suc b) =
     ∙ (ap (λ j. L ++ block_of letter j (take 126 (drop (b * 126) (drop 126 nums)))) number
     ∙ ap (λ t. L ++ block_of letter (k + suc b) (take 126 t)) (drop-drop (b * 126) 126 nums ∙ ap (λ n. drop n nums) from)))
     ∙ sym (append_assoc B L (block_of letter (k + suc b) (take 126 (drop (suc b * 126) nums))))
+
+-- a part off the front of a list is its first 126 numbers, and the others are left
+pub part_is : (part rest : List ℤ) → length part ≡ min 126 (length (part ++ rest)) → (take 126 part ≡ take 126 (part ++ rest)) × (rest ≡ drop 126 (part ++ rest))
+part_is part rest e =
+    let all : length (part ++ rest) ≡ length part + length rest = length-append part rest in
+    ⊎_elim
+    (λ (short : length part < 126).
+    let none : rest ≡ [] = nil_from_length rest (omega arith) in (
+      sym (ap (λ t. take 126 (part ++ t)) none ∙ ap (take 126) (append-nil part)),
+      none ∙ sym (drop_all 126 (part ++ rest) (omega arith)),
+    ))
+    (λ (whole : 126 ≤ length part).
+    let long : length part ≡ 126 = omega arith in (
+      take_all 126 part (omega arith) ∙ sym (take_at part rest 126 long),
+      sym (drop_at part rest 126 long),
+    ))
+    (cases_lt (length part) 126)
 
 -- one turn of the loop that writes a run
 pub run_more : (d out ys bs : List ℕ) (letter k b size : ℕ) (nums : List ℤ) → out ≡ paste d (k * 512) (laid letter k nums b) (b * 512) → k * 512 ≤ length d

@@ -1,4 +1,5 @@
-ghost use Rattle.std.specs.Prelude.{◌≡◌, ◌+◌, ◌*◌, ◌≤◌, length, IfOk, OnOk};
+ghost use Rattle.std.specs.Prelude.{◌≡◌, ◌+◌, ◌*◌, ◌≤◌, length, IfOk, OnOk, MatchOption, ◌&&◌, false, int_le, pos};
+ghost use Rattle.block.specs.Bytes.{num};
 ghost use Rattle.block.specs.Blocks.{block_at};
 ghost use Rattle.section.specs.Layout.{blocks_for, count_of, first_of, blocks_in};
 ghost use Rattle.card.specs.Faults.{n_of, m_of, length_check, size_check, head_check, full_check, run_check, section_check, sections_check, card_check, verdict};
@@ -27,21 +28,24 @@ fn check_length(len: usize) -> Result<(), Fault>
     }
 }
 
+/// A size that a head gives, if it is a number of two bytes.
+fn size_at(card: &[u8], at: usize) -> Option<u16>
+    requires { at + 4 ≤ length card.now }
+    ensures { MatchOption result ((int_le (pos 0) (num card.now at) && int_le (num card.now at) (pos 65535)) ≡ false) (λ k. num card.now at ≡ pos k) }
+{
+    u16::try_from(number_at(card, at)?).ok()
+}
+
 /// The sizes that a head gives, if they are in range.
 fn sizes_in(card: &[u8]) -> Result<Sizes, Fault>
     requires { 512 ≤ length card.now }
     ensures value { verdict result ≡ size_check card.now }
     ensures sizes { IfOk result (λ s. (s.ropes ≡ n_of card.now) × (s.rows ≡ m_of card.now)) }
 {
-    let n = number_at(card, 4).unwrap_or(0);
-    let m = number_at(card, 8).unwrap_or(0);
-    if (1..=16).contains(&n) && (0..=32).contains(&m) {
-        Sizes::new(n.unsigned_abs() as u16, m.unsigned_abs() as u16).ok_or(Fault::Sizes {
-            block: 0,
-        })
-    } else {
-        Err(Fault::Sizes { block: 0 })
-    }
+    let (Some(ropes), Some(rows)) = (size_at(card, 4), size_at(card, 8)) else {
+        return Err(Fault::Sizes { block: 0 });
+    };
+    Sizes::new(ropes, rows).ok_or(Fault::Sizes { block: 0 })
 }
 
 /// The sizes of a card whose head passes: its check sum, its name, its sizes, its spare bytes.
@@ -97,12 +101,10 @@ fn check_sections(card: &[u8], sizes: &Sizes) -> Result<(), Fault>
     requires { length card.now ≡ blocks_in sizes.now.ropes sizes.now.rows * 512 }
     ensures { result ≡ sections_check card.now sizes.now.ropes sizes.now.rows }
 {
-    check_section(card, Kind::Curvature, sizes)?;
-    check_section(card, Kind::Rows, sizes)?;
-    check_section(card, Kind::Costs, sizes)?;
-    check_section(card, Kind::Bounds, sizes)?;
-    check_section(card, Kind::Limits, sizes)?;
-    check_section(card, Kind::Slip, sizes)
+    for kind in Kind::AFTER_HEAD {
+        check_section(card, kind, sizes)?;
+    }
+    Ok(())
 }
 
 /// The sizes of a card, or the first fault of bytes that are none.

@@ -16,9 +16,8 @@ fn write_run(out: &mut [u8], letter: u8, first: u16, numbers: &[i32])
     ensures value { out.new ≡ run_into out.old letter first numbers.now (blocks_for (length numbers.now)) }
     ensures fits { Fit numbers.now }
 {
-    let blocks = (numbers.len() + 125) / 126;
-    for b in 0..blocks {
-        let block = Block::make(letter, first + b as u16, &numbers[b * 126..numbers.len()]);
+    for (b, part) in numbers.chunks(126).enumerate() {
+        let block = Block::make(letter, first + b as u16, part);
         let at = (first as usize + b) * 512;
         out[at..at + 512].copy_from_slice(block.bytes());
     }

@@ -54,6 +54,16 @@ impl TryFrom<char> for Kind {
 }
 
 impl Kind {
+    /// The kinds of section that follow the head, in the order in which they stand.
+    pub const AFTER_HEAD: [Kind; 6] = [
+        Kind::Curvature,
+        Kind::Rows,
+        Kind::Costs,
+        Kind::Bounds,
+        Kind::Limits,
+        Kind::Slip,
+    ];
+
     /// The letter of the section's blocks.
     pub fn letter(self) -> u8
         ensures { result ≡ letter_of self }

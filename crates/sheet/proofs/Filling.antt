@@ -1,5 +1,6 @@
 -- The contents of a job's card, and what is written of them.
 use Rattle.std.proofs.Common.{◌≡◌, ℕ, ◌*◌, ◌≤◌, Bool, true, cond, leb, List, [], ◌++◌, length, drop, ℤ, IfOk, IsOk, IsSome, Some, None, Ok, Err, Option, Result, sym, refl, ap, ◌∙◌, subst, arith}
+use Rattle.std.specs.Option.{option_or}
 use Rattle.std.proofs.lemmas.List.{append-nil, length-append}
 use Rattle.std.proofs.lemmas.Bool.{le-leb}
 use Rattle.block.specs.declared.fault.Fault.{Fault}
@@ -20,7 +21,7 @@ use Rattle.opening.specs.Opening.{Numbers, open_fault}
 use Rattle.opening.specs.declared.refusal.Refusal.{Refusal}
 use Rattle.opening.specs.declared.refusal.Refusal.TheVariants.{Card}
 use Rattle.opening.proofs.Firsts.{or_both}
-use Rattle.calls.specs.Steps.{unless}
+use Rattle.opening.specs.Firsts.{unless}
 use Rattle.reading.specs.Plain.{listed}
 use Rattle.reading.proofs.Listed.{listed_long}
 use Rattle.sheet.specs.Laws.{Carries}
@@ -46,6 +47,11 @@ counted s n m g a x curvature rows costs bounds limits slip f er em en ek eg ea 
     let l = f.long.lo in let u = f.long.hi in ap length ei ∙ length-append x.lo x.hi ∙ omega arith
 counted s n m g a x curvature rows costs bounds limits slip f er em en ek eg ea ec eb ei el Slip =
     ap length (el ∙ append-nil x.slip) ∙ f.long.slip ∙ ap (λ (k : ℕ). k * k) (sym er)
+
+-- what is told where opening refuses, whatever else would
+pub opening_refused : {X : Type 0} (u : X) (o rest : Option Refusal) (v : ℕ) (r : Result ℕ Refusal) (e : Refusal) → r ≡ Err e → Err e ≡ unless o u → r ≡ unless (option_or o rest) v
+opening_refused u None rest v r e told q = let z : ◌≡◌ {A = ℕ} 0 1 = cc in absurd (omega arith)
+opening_refused u (Some x) rest v r e told q = let same : e ≡ x = cc in told ∙ ap Err same
 
 -- sections that have as many numbers as the sizes ask for make contents
 pub built : (o : Option Contents) (s : Sizes) (nums : Kind → List ℤ) → card.Built o s nums → Counted s nums → IsSome o
@@ -88,11 +94,11 @@ module _ (y : Contents) (g a : Grid) (x : Numbers) (e : (kind : Kind) → number
     used_is used e = let h = is_written in let same : used ≡ bytes_needed y = cc in ap Ok (same ∙ needed_is)
 
     module _ (r : Result ℕ Refusal) (used : r ≡ Ok (bytes_for g a)) where
-      pub answered : None ≡ open_fault g a x → r ≡ write_answer true g a x (length out)
+      pub answered : open_fault g a x ≡ None → r ≡ write_answer true g a x (length out)
       answered none =
           let fits : cond (leb (bytes_for g a) (length out)) None (Some (Card (Short (bytes_for g a)))) ≡ None
           = ap (λ (b : Bool). cond b None (Some (Card (Short (bytes_for g a))))) (le-leb (bytes_for g a) (length out) room) in
-          used ∙ sym (ap (λ (o : Option Refusal). unless o (bytes_for g a)) (or_both _ _ (sym none) (or_both _ _ fits refl)))
+          used ∙ sym (ap (λ (o : Option Refusal). unless o (bytes_for g a)) (or_both _ _ none (or_both _ _ fits refl)))
 
       pub left : (after : List ℕ) → after ≡ card.write_after y out → after ≡ write_after g a x out r
       left after e =

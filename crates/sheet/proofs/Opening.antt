@@ -9,7 +9,7 @@ use Rattle.opening.specs.declared.refusal.Refusal.{Refusal}
 use Rattle.opening.specs.declared.refusal.Refusal.TheVariants.{Memory}
 use Rattle.calls.specs.Opened.{Opens, Sound, opened}
 use Rattle.calls.specs.States.{State}
-use Rattle.calls.specs.Steps.{unless}
+use Rattle.opening.specs.Firsts.{unless}
 use Rattle.plan.specs.declared.state.Plan.{Plan}
 use Rattle.plan.specs.View.{view}
 use Rattle.table.specs.declared.interface.Table.{Ghosts}

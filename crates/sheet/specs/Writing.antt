@@ -6,7 +6,7 @@ use Rattle.table.specs.Grid.{Grid}
 use Rattle.opening.specs.Opening.{Numbers, open_fault}
 use Rattle.opening.specs.declared.refusal.Refusal.{Refusal}
 use Rattle.opening.specs.declared.refusal.Refusal.TheVariants.{Memory, Card}
-use Rattle.calls.specs.Steps.{unless}
+use Rattle.opening.specs.Firsts.{unless}
 use Rattle.sheet.specs.Numbers.{card_for, bytes_for}
 
 -- opening's refusals, then a list that is too short, then want of memory

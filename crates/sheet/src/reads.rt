@@ -50,17 +50,13 @@ fn read_lists(heap: Global, card: &[u8], sizes: &Sizes) -> Result<CardLists, All
 pub(crate) fn read_job<'a>(heap: Global, card: &'a [u8]) -> Result<CardJob<'a>, Refusal>
     ensures { (memory : Bool) × (seen result ≡ read_answer memory card.now) }
 {
-    match check_card(card) {
-        Ok(sizes) => {
-            let lists = read_lists(heap, card, &sizes)?;
-            Ok(CardJob {
-                g: CardTable::curvature(card),
-                a: CardTable::rows(card),
-                lists,
-            })
-        }
-        Err(fault) => Err(Refusal::Card { fault }),
-    }
+    let sizes = check_card(card)?;
+    let lists = read_lists(heap, card, &sizes)?;
+    Ok(CardJob {
+        g: CardTable::curvature(card),
+        a: CardTable::rows(card),
+        lists,
+    })
 }
 
 impl CardLists {

@@ -11,7 +11,7 @@ ghost use Rattle.sheet.specs.Laws.{Carries};
 
 use crate::numbers::{list_numbers, table_numbers};
 use card::{Contents, Fault, Sizes};
-use opening::{Lists, Refusal, opening_fault};
+use opening::{Lists, Refusal, check_opening};
 use std::alloc::{AllocError, Global};
 use table::Table;
 
@@ -65,9 +65,7 @@ pub fn write<G: Table, A: Table>(
     ensures carries { OnOk result (Carries (card_for (G.Table.meant g.now) (A.Table.meant a.now) (numbers_of lists.now))
         (G.Table.meant g.now) (A.Table.meant a.now) (numbers_of lists.now)) }
 {
-    if let Some(fault) = opening_fault(g, a, lists) {
-        return Err(fault);
-    }
+    check_opening(g, a, lists)?;
     let sizes = sizes_of(g, a, lists);
     let needed = sizes.card_bytes();
     if out.len() < needed {

@@ -1,6 +1,7 @@
-use Rattle.std.proofs.Common.{◌≤◌, true, Ok, length, refl, arith}
+use Rattle.std.proofs.Common.{◌≡◌, ◌≤◌, true, Ok, Err, length, refl, arith, rules}
 use Rattle.opening.specs.Opening.{numbers_of}
-use Rattle.sheet.proofs.Filling.{answered, can_write, carried, left, room_for, used_is}
+use Rattle.opening.proofs.Firsts.{none_of}
+use Rattle.sheet.proofs.Filling.{answered, can_write, carried, left, opening_refused, room_for, used_is}
 use Rattle.sheet.proofs.writes.write.Goals as goal
 
 pub unwrap-requires : goal.unwrap-requires
@@ -18,6 +19,11 @@ unwrap-requires g c =
     let wrote = c.write.ensures.answer in
     can_write y G A x e out room c.write.result wrote
 
+pub returns-in_err-check_opening-clause-answer : goal.returns-in_err-check_opening-clause-answer
+returns-in_err-check_opening-clause-answer g c =
+    let told : c.from_residual.result ≡ Err c.in_err-check_opening.field-0.0 = search rules in
+    (true, opening_refused _ _ _ _ _ _ told c.in_err-check_opening.ensures.value)
+
 pub returns : goal.returns
 returns g c =
     let G = g.G.Table.meant c.args.g.now in
@@ -33,7 +39,7 @@ returns g c =
     let wrote = c.write.ensures.answer in
     let used = used_is y G A x e out room c.write.result wrote c.unwrap.result c.unwrap.ensures in
     record {
-      answer = (true, answered y G A x e out room c.write.result wrote (Ok c.unwrap.result) used c.in_default.ensures.value);
+      answer = (true, answered y G A x e out room c.write.result wrote (Ok c.unwrap.result) used (none_of _ _ _ c.in_ok-check_opening.ensures.value));
       after = left y G A x e out room c.write.result wrote (Ok c.unwrap.result) used c.write.new.out c.write.ensures.after;
-      carries = carried y G A x e out room c.write.result wrote (Ok c.unwrap.result) used (c.in_default.ensures.law.fits refl) c.write.ensures.passes c.write.ensures.reads;
+      carries = carried y G A x e out room c.write.result wrote (Ok c.unwrap.result) used (c.in_ok-check_opening.ensures.law.fits refl) c.write.ensures.passes c.write.ensures.reads;
     }
