@@ -1,17 +1,12 @@
 -- A list that a loop writes place by place, seen in its first places.
 use Rattle.std.proofs.Common.{◌≡◌, ℕ, zero, suc, ◌+◌, ◌-◌, ◌<◌, ◌≤◌, List, [], ◌∷◌, ◌++◌, map, length, get_or, take, drop, set, replicate, ℤ, pos, sym, refl, ap, ◌∙◌, subst, arith}
 use native.Mathlib.Nat.{sub-zero}
-use lib.Ieee.{Float, nan, binary64, of_bits}
-use Rattle.std.specs.List.{range_with_len}
+use lib.Ieee.{Float, nan}
 use borrow.Rule.Slice.PartMut.{post_of}
 use Rattle.exchange.specs.Offers.{filled}
-use Rattle.std.proofs.lemmas.List.FromFn.{fill_by_all}
-use Rattle.std.proofs.lemmas.List.{length-take-le, get_or-take, drop-replicate, length-replicate, take_at, drop_at, take_more, take_more_set, map-append, drop-set-lt, drop-drop, length-set, length-map, take-append-drop, take_all, drop-map, take-map}
+use Rattle.std.proofs.lemmas.List.{length-take-le, drop-replicate, length-replicate, take_at, drop_at, take_more, take_more_set, map-append, drop-set-lt, drop-drop, length-set, length-map, take-append-drop, take_all, drop-map, take-map}
 use Rattle.exchange.specs.Rounding.{pulled, pressed, scaled, in_parts}
 use Rattle.elimination.specs.Nearest.{nearest}
-
-pub take_filled : {X : Type 0} (f : ℕ → X) (xs : List X) (n : ℕ) (d : X) → n ≤ length xs → ((k : ℕ) → k < n → get_or xs k d ≡ f k) → take n xs ≡ map f (range_with_len 0 n)
-take_filled f xs n d l h = fill_by_all f (take n xs) n d (length-take-le n xs l) (λ k t. get_or-take n xs k d t ∙ h k t)
 
 -- a write of a line that is as long as the others
 pub lengths_set : {X : Type 0} (ls : List (List X)) (r n : ℕ) (x : List X) → ((i : ℕ) → i < length ls → length (get_or ls i []) ≡ n) → length x ≡ n →
@@ -21,10 +16,6 @@ lengths_set (y ∷ ls) zero n x h e zero l = e
 lengths_set (y ∷ ls) zero n x h e (suc i) l = h (suc i) l
 lengths_set (y ∷ ls) (suc r) n x h e zero l = h 0 l
 lengths_set (y ∷ ls) (suc r) n x h e (suc i) l = lengths_set ls r n x (λ k t. h (suc k) (omega arith)) e i (omega arith)
-
--- a part of the square in which systems are written
-pub square_long : (n : ℕ) → n ≤ 32 → length (take n (replicate 32 (replicate 33 (of_bits binary64 0)))) ≡ n
-square_long n h = length-take-le n (replicate 32 (replicate 33 (of_bits binary64 0))) h
 
 -- a part of an array of zeros, and the array after the part is written
 pub zeros_long : {X : Type 0} (z : X) (c n : ℕ) → n ≤ c → length (take (n - 0) (replicate c z)) ≡ n
