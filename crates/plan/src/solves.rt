@@ -98,19 +98,17 @@ impl<G: Table, A: Table> Plan<G, A> {
             let step = exchange.step(job);
             self.offer_step(step, at);
             if let Some(end) = end_after(step) {
-                let smallest = exchange.smallest_pivot();
                 return Exchanged {
                     steps: k + 1,
                     end,
-                    smallest,
+                    smallest: exchange.smallest_pivot(),
                 };
             }
         }
-        let smallest = exchange.smallest_pivot();
         Exchanged {
             steps: budget,
             end: End::Spent,
-            smallest,
+            smallest: exchange.smallest_pivot(),
         }
     }
 
