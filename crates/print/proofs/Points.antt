@@ -1,5 +1,5 @@
 -- The point that is shown has few numbers, and none too far.
-use Rattle.std.proofs.Common.{◌≡◌, ℕ, zero, suc, ◌-◌, ◌≤◌, Bool, true, false, cond, eqb, leb, List, length, take, replicate, ℤ, pos, Some, None, Ok, Err, Option, vec_len, sym, refl, ap, ◌∙◌, arith, vec_items}
+use Rattle.std.proofs.Common.{◌≡◌, ℕ, zero, suc, ◌≤◌, Bool, true, false, cond, eqb, leb, List, length, take, replicate, ℤ, pos, Some, None, Ok, Err, Option, vec_len, sym, refl, ap, ◌∙◌, arith}
 use Rattle.std.proofs.lemmas.List.{length-replicate, get_or-replicate, take-replicate}
 use Rattle.std.proofs.lemmas.Bool.{and_parts, and_from, eq-eqb, eqb-true, le-leb}
 use Rattle.duality.specs.Lists.{places}

@@ -5,11 +5,12 @@
 use block::Block;
 use calls::{Amendment, Verdict};
 use card::CardTable;
-use opening::{Layer, List, Lists, Refusal};
+use opening::{List, Lists, Refusal};
 use plan::Plan;
 use print::{print_plan, print_refusal};
-use session::{Answer, Call, session};
+use session::{Answer, Call, Pair, session};
 use sheet::{load, write};
+use small_job::{CURVATURE, LISTS, ROW, record};
 use std::alloc::Global;
 use std::io;
 use std::io::Write;
@@ -20,58 +21,28 @@ const BYTES: usize = 3584;
 
 fn refused(rt: &HostRuntime, name: &str, refusal: Refusal) -> io::Result<()> {
     let notice = refusal.notice();
-    let number = notice.number;
-    let first = notice.first;
-    let second = notice.second;
-    let layer = match notice.layer {
-        Layer::Card => "card",
-        Layer::Table => "table",
-        Layer::Plan => "plan",
-    };
-    println!(rt; "{name}: refused {number} at {first} {second} ({layer})")
+    println!(rt; "{name}: {notice} ({})", notice.layer)
 }
 
-fn record(row: i64, column: i64, number: i64) -> Record {
-    Record {
-        row,
-        column,
-        number,
-    }
-}
-
-/// The lists of J, a job of two ropes and one row: G = (2, 0; 0, 2), the row (1, 1).
-fn lists_of_j() -> Lists<'static> {
-    Lists {
-        c: &[-4, -6],
-        l: &[0, 0],
-        u: &[10, 10],
-        lo: &[0],
-        hi: &[3],
-        slip: &[0, 0, 0, 0],
-    }
-}
-
-/// The lists with another one in place of one of them.
-fn with<'a>(lists: Lists<'a>, list: List, numbers: &'a [i64]) -> Lists<'a> {
-    let mut other = lists;
+/// The lists of J with another one in place of one of them.
+fn with(list: List, numbers: &[i64]) -> Lists {
+    let mut lists = LISTS;
     match list {
-        List::Costs => other.c = numbers,
-        List::LowerBounds => other.l = numbers,
-        List::UpperBounds => other.u = numbers,
-        List::LowerLimits => other.lo = numbers,
-        List::UpperLimits => other.hi = numbers,
-        List::Slip => other.slip = numbers,
+        List::Costs => lists.c = numbers,
+        List::LowerBounds => lists.l = numbers,
+        List::UpperBounds => lists.u = numbers,
+        List::LowerLimits => lists.lo = numbers,
+        List::UpperLimits => lists.hi = numbers,
+        List::Slip => lists.slip = numbers,
     }
-    other
+    lists
 }
 
 /// Writes the card of J into a list.
 fn write_into(rt: &HostRuntime, name: &str, out: &mut [u8]) -> io::Result<()> {
-    let twos = [record(0, 0, 2), record(1, 1, 2)];
-    let ones = [record(0, 0, 1), record(0, 1, 1)];
-    let g = Triplets::new(2, 2, &twos);
-    let a = Triplets::new(1, 2, &ones);
-    match write(rt.alloc(), &g, &a, &lists_of_j(), out) {
+    let g = Triplets::new(2, 2, &CURVATURE);
+    let a = Triplets::new(1, 2, &ROW);
+    match write(rt.alloc(), &g, &a, &LISTS, out) {
         Ok(bytes) => println!(rt; "{name}: {bytes} bytes"),
         Err(refusal) => refused(rt, name, refusal),
     }
@@ -79,10 +50,10 @@ fn write_into(rt: &HostRuntime, name: &str, out: &mut [u8]) -> io::Result<()> {
 
 fn check_sums(rt: &HostRuntime, card: &[u8]) -> io::Result<()> {
     print!(rt; "check sums:")?;
+    // A card's blocks are read by number.
     for number in 0..7 {
         if let Some(block) = Block::read(card, number) {
-            let sum = block.sum();
-            print!(rt; " {sum}")?;
+            print!(rt; " {}", block.sum())?;
         }
     }
     println!(rt; "")
@@ -93,7 +64,7 @@ fn write_again(rt: &HostRuntime, card: &[u8]) -> io::Result<()> {
     let mut again = [0u8; BYTES];
     let g = CardTable::curvature(card);
     let a = CardTable::rows(card);
-    match write(rt.alloc(), &g, &a, &lists_of_j(), &mut again) {
+    match write(rt.alloc(), &g, &a, &LISTS, &mut again) {
         Ok(bytes) => {
             let words = if &again[..] == card {
                 "the same"
@@ -203,14 +174,14 @@ fn open_ropes(rt: &HostRuntime, name: &str, n: i64) -> io::Result<()> {
 fn open_sizes(rt: &HostRuntime, name: &str, g: (i64, i64), a: (i64, i64)) -> io::Result<()> {
     let g = Triplets::new(g.0, g.1, &[]);
     let a = Triplets::new(a.0, a.1, &[]);
-    open(rt, name, g, a, &lists_of_j())
+    open(rt, name, g, a, &LISTS)
 }
 
 /// Tables of the sizes of J's with these records, and the lists of J.
 fn open_records(rt: &HostRuntime, name: &str, g: &[Record], a: &[Record]) -> io::Result<()> {
     let g = Triplets::new(2, 2, g);
     let a = Triplets::new(1, 2, a);
-    open(rt, name, g, a, &lists_of_j())
+    open(rt, name, g, a, &LISTS)
 }
 
 fn table_sizes(rt: &HostRuntime) -> io::Result<()> {
@@ -239,26 +210,23 @@ fn table_places(rt: &HostRuntime) -> io::Result<()> {
 
 /// A card that ends after its head gives sizes, and no place of its tables.
 fn blank_tables(rt: &HostRuntime, card: &[u8; BYTES]) -> io::Result<()> {
-    let lists = lists_of_j();
     let one = Triplets::new(1, 2, &[]);
     let g = CardTable::curvature(&card[0..512]);
-    open(rt, "G blank throughout", g, one, &lists)?;
+    open(rt, "G blank throughout", g, one, &LISTS)?;
     let many = Triplets::new(33, 2, &[]);
     let g = CardTable::curvature(&card[0..512]);
-    open(rt, "G blank throughout and A 33 by 2", g, many, &lists)
+    open(rt, "G blank throughout and A 33 by 2", g, many, &LISTS)
 }
 
 /// Tables of 2 on the diagonal of G, and J's lists but for one or two.
 fn open_lists(rt: &HostRuntime, name: &str, lists: Lists) -> io::Result<()> {
-    let twos = [record(0, 0, 2), record(1, 1, 2)];
-    let ones = [record(0, 0, 1), record(0, 1, 1)];
-    let g = Triplets::new(2, 2, &twos);
-    let a = Triplets::new(1, 2, &ones);
+    let g = Triplets::new(2, 2, &CURVATURE);
+    let a = Triplets::new(1, 2, &ROW);
     open(rt, name, g, a, &lists)
 }
 
 fn open_with(rt: &HostRuntime, name: &str, list: List, numbers: &[i64]) -> io::Result<()> {
-    open_lists(rt, name, with(lists_of_j(), list, numbers))
+    open_lists(rt, name, with(list, numbers))
 }
 
 fn list_lengths(rt: &HostRuntime) -> io::Result<()> {
@@ -289,16 +257,25 @@ fn list_order(rt: &HostRuntime) -> io::Result<()> {
     let crooked = [record(1, 0, 1)];
     let g = Triplets::new(2, 2, &crooked);
     let a = Triplets::new(1, 2, &[]);
-    let lists = with(lists_of_j(), List::Costs, &[0, 0, 0]);
+    let lists = with(List::Costs, &[0, 0, 0]);
     open(rt, "G not symmetric and 3 costs", g, a, &lists)?;
-    let lists = with(lists_of_j(), List::Costs, &[0, 268435457]);
-    let lists = with(lists, List::UpperBounds, &[10]);
+    let lists = Lists {
+        c: &[0, 268435457],
+        u: &[10],
+        ..LISTS
+    };
     open_lists(rt, "cost 268435457 and 1 upper bound", lists)?;
-    let lists = with(lists_of_j(), List::Slip, &[131073, 0, 0, 0]);
-    let lists = with(lists, List::LowerBounds, &[11, 0]);
+    let lists = Lists {
+        slip: &[131073, 0, 0, 0],
+        l: &[11, 0],
+        ..LISTS
+    };
     open_lists(rt, "131073 in the slip and bounds crossed", lists)?;
-    let lists = with(lists_of_j(), List::Slip, &[0, 0, 0, 1449]);
-    let lists = with(lists, List::LowerLimits, &[4]);
+    let lists = Lists {
+        slip: &[0, 0, 0, 1449],
+        lo: &[4],
+        ..LISTS
+    };
     open_lists(rt, "slip 1449 and limits crossed", lists)
 }
 
@@ -318,16 +295,15 @@ fn answered(rt: &HostRuntime, name: &str, answer: &Answer) -> io::Result<()> {
         Answer::Amended(Ok(_)) => println!(rt; "{name}: amended"),
         Answer::Solved(Ok(_)) => println!(rt; "{name}: solved"),
         Answer::Shown(Ok(_), _) => println!(rt; "{name}: shown"),
-        Answer::Judged(Err(refusal)) => refused(rt, name, *refusal),
-        Answer::Amended(Err(refusal)) => refused(rt, name, *refusal),
-        Answer::Solved(Err(refusal)) => refused(rt, name, *refusal),
-        Answer::Shown(Err(refusal), _) => refused(rt, name, *refusal),
+        Answer::Judged(Err(refusal))
+        | Answer::Amended(Err(refusal))
+        | Answer::Solved(Err(refusal))
+        | Answer::Shown(Err(refusal), _) => refused(rt, name, *refusal),
     }
 }
 
 /// Makes one call on a new plan of two ropes and three rows: J with the rows (1, 1) from 0 to 5, (1, -1) from -3 to 2 and (0, 1) from 0 to 2.
 fn ask(rt: &HostRuntime, name: &str, call: Call) -> io::Result<()> {
-    let twos = [record(0, 0, 2), record(1, 1, 2)];
     let ones = [
         record(0, 0, 1),
         record(0, 1, 1),
@@ -335,10 +311,13 @@ fn ask(rt: &HostRuntime, name: &str, call: Call) -> io::Result<()> {
         record(1, 1, -1),
         record(2, 1, 1),
     ];
-    let g = Triplets::new(2, 2, &twos);
+    let g = Triplets::new(2, 2, &CURVATURE);
     let a = Triplets::new(3, 2, &ones);
-    let lists = with(lists_of_j(), List::LowerLimits, &[0, -3, 0]);
-    let lists = with(lists, List::UpperLimits, &[5, 2, 2]);
+    let lists = Lists {
+        lo: &[0, -3, 0],
+        hi: &[5, 2, 2],
+        ..LISTS
+    };
     match session(rt.alloc(), g, a, &lists, &[call]) {
         Ok(answers) => {
             for answer in answers.as_slice() {
@@ -366,7 +345,7 @@ fn points(rt: &HostRuntime) -> io::Result<()> {
 }
 
 fn pair<'a>(point: &'a [i64], multipliers: &'a [i64]) -> Call<'a> {
-    Call::Floor { point, multipliers }
+    Call::Floor(Pair { point, multipliers })
 }
 
 fn pairs(rt: &HostRuntime) -> io::Result<()> {
