@@ -10,7 +10,7 @@ use Rattle.exchange.specs.declared.members.Offer.{Offer as Found}
 use Rattle.exchange.specs.declared.members.Member.{Member}
 use Rattle.exchange.specs.declared.members.Step.{Step}
 use Rattle.exchange.specs.declared.members.Step.TheVariants as step
-use Rattle.exchange.specs.ProblemOffers.{OffersInside}
+use Rattle.exchange.specs.Steps.{OffersInside}
 use Rattle.exchange.specs.Runs.{Run, stepped, offers_of, run_from, exchanged}
 use Rattle.exchange.proofs.Running.{run_starts}
 use Rattle.calls.specs.States.{State}
