@@ -30,6 +30,7 @@ fn write_section(out: &mut [u8], kind: Kind, sizes: &Sizes, numbers: &[i32])
     ensures fits { Fit numbers.now }
 {
     let first = sizes.first(kind);
+    // Asked for its clause alone: a section has at most 512 numbers.
     let _count = sizes.count(kind);
     write_run(out, kind.letter(), first, numbers);
 }
