@@ -1,5 +1,5 @@
-ghost use Rattle.std.specs.Prelude.{◌≡◌};
-ghost use Rattle.block.specs.Notices.{at_card, notice_of};
+ghost use Rattle.std.specs.Prelude.{◌≡◌, Some};
+ghost use Rattle.block.specs.Notices.{at_card, notice_of, name_of, notice_text, fault_text};
 
 use std::error::Error;
 use std::fmt;
@@ -67,6 +67,8 @@ impl Fault {
 }
 
 impl fmt::Display for Layer {
+    ghost output = { λ layer. Some (name_of layer) };
+
     fn fmt<W: fmt::Write>(&self, f: &mut fmt::Formatter<W>) -> fmt::Result {
         f.write_str(match self {
             Layer::Card => "card",
@@ -78,16 +80,23 @@ impl fmt::Display for Layer {
 
 /// A notice as programs print it: its number and its places.
 impl fmt::Display for Notice {
+    ghost output = { λ notice. Some (notice_text notice) };
+
     fn fmt<W: fmt::Write>(&self, f: &mut fmt::Formatter<W>) -> fmt::Result {
-        write!(
-            f,
-            "refused {} at {} {}",
-            self.number, self.first, self.second
-        )
+        let Notice {
+            number,
+            first,
+            second,
+            ..
+        } = *self;
+        write!(f, "refused {number} at {first} {second}")
     }
 }
 
+/// A fault as programs print it: its notice.
 impl fmt::Display for Fault {
+    ghost output = { λ fault. Some (fault_text fault) };
+
     fn fmt<W: fmt::Write>(&self, f: &mut fmt::Formatter<W>) -> fmt::Result {
         write!(f, "{}", self.notice())
     }

@@ -1,22 +1,11 @@
-ghost use Rattle.std.specs.Prelude.{◌≡◌};
-ghost use Rattle.std.specs.Result.{result_ok};
+ghost use Rattle.std.specs.Prelude.{◌≡◌, ok_or};
 ghost use Rattle.section.specs.Kinds.{letter_of, kind_of, Names};
 
 use crate::kind::Kind;
-use std::error::Error;
-use std::fmt;
 
 /// A letter that names no section.
 #[derive(Clone, Copy, PartialEq, Eq, Debug)]
 pub struct UnknownKind(pub char);
-
-impl fmt::Display for UnknownKind {
-    fn fmt<W: fmt::Write>(&self, f: &mut fmt::Formatter<W>) -> fmt::Result {
-        write!(f, "no section has letter {}", self.0)
-    }
-}
-
-impl Error for UnknownKind {}
 
 impl From<Kind> for u8 {
     ghost from_gives = { λ kind letter. letter ≡ letter_of kind };
@@ -37,7 +26,7 @@ impl From<Kind> for u8 {
 impl TryFrom<char> for Kind {
     type Error = UnknownKind;
 
-    ghost try_from_gives = { λ letter named. result_ok named ≡ kind_of letter };
+    ghost try_from_gives = { λ letter named. named ≡ ok_or (kind_of letter) (record { 0 = letter }) };
 
     fn try_from(letter: char) -> Result<Kind, UnknownKind> {
         match letter {
