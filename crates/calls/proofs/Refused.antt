@@ -9,7 +9,8 @@ use Rattle.duality.specs.Tests.{first_not, within}
 use Rattle.duality.proofs.Tests.{first_none}
 use Rattle.opening.specs.declared.refusal.Refusal.TheVariants.{OfferLength, OfferLimit, Bound, Row, NoProof}
 use Rattle.opening.specs.Fits.{Near}
-use Rattle.opening.proofs.Firsts.{or_none, or_both, mapped_none, cond_none, first_all}
+use Rattle.opening.proofs.Firsts.{or_none, or_both, mapped_none, cond_none}
+use Rattle.terms.proofs.Firsts.{first_all}
 use Rattle.evaluate.specs.Findings.{keeps_bound, keeps_row}
 use Rattle.evaluate.specs.Floors.{refuting}
 use Rattle.evaluate.proofs.Firsts.{row_decides, bound_decides}

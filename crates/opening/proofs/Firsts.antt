@@ -1,8 +1,7 @@
 -- The first of several answers: a loop's step, its exits, and what it says where there is none.
-use Rattle.std.proofs.Common.{◌≡◌, ℕ, zero, suc, ◌<◌, ◌≤◌, Bool, true, false, cond, Some, None, Option, refl, ap, ◌∙◌, ⊎_elim, arith, Ok, Err, sym, List, length, slice_index_or}
+use Rattle.std.proofs.Common.{◌≡◌, ℕ, zero, suc, ◌<◌, ◌≤◌, Bool, true, false, cond, Some, None, Option, refl, ap, ◌∙◌, ⊎_elim, arith, Ok, Err}
 use Rattle.std.proofs.lemmas.Bool.{cases_lt}
-use Rattle.std.specs.List.{AllWithin, HoldsAt}
-use Rattle.std.specs.Option.{MatchOption, option_or, option_map}
+use Rattle.std.specs.Option.{option_or, option_map}
 use Rattle.duality.specs.Tests.{first_not}
 use Rattle.duality.proofs.Tests.{first_at}
 use Rattle.opening.specs.Firsts.{first_of, unless}
@@ -48,13 +47,6 @@ cond_none false x e = let z : ◌≡◌ {A = ℕ} 0 1 = cc in absurd (omega arit
 pub stops_at : {Y : Type 0} (f : ℕ → Y) (p : ℕ → Bool) (i n : ℕ) → first_not p i ≡ None → p i ≡ false → i < n → option_map f (first_not p n) ≡ Some (f i)
 stops_at f p i n e t l = ap (option_map f) (first_at p i n e t l)
 
-pub first_all : (p : ℕ → Bool) (n : ℕ) → ((k : ℕ) → k < n → p k ≡ true) → first_not p n ≡ None
-first_all p zero h = refl
-first_all p (suc n) h =
-    let below : first_not p n ≡ None = first_all p n (λ k l. h k (omega arith)) in
-    let here : p n ≡ true = h n (omega arith) in
-    cc
-
 -- none of six answers is given
 pub six_none : {X : Type 0} (s t l m o p : Option X) → option_or (option_or (option_or (option_or (option_or s t) l) m) o) p ≡ None →
     (s ≡ None) × (t ≡ None) × (l ≡ None) × (m ≡ None) × (o ≡ None) × (p ≡ None)
@@ -77,14 +69,6 @@ refused_at x F f p m n line i j rows h row t w =
     let here : f i ≡ Some (F i j) = line i ∙ stops_at (F i) (p i) j n row t w in
     let first : first_of f m ≡ Some (F i j) = of_at f i m (F i j) rows here h in
     cc
-
--- what `position` finds is the first place that fails a test, where its closure answers that the test fails
-pub first_position : {B : Type 0} (p : ℕ → Bool) (xs : List B) (d : B) (Yes No : B → Type 0)
-    → ((k : ℕ) → k < length xs → Yes (slice_index_or xs k d) → p k ≡ false) → ((k : ℕ) → k < length xs → No (slice_index_or xs k d) → p k ≡ true) → (o : Option ℕ)
-    → MatchOption o (AllWithin No xs 0 (length xs)) (λ i. (i < length xs) × HoldsAt Yes xs i × AllWithin No xs 0 i) → o ≡ first_not p (length xs)
-first_position p xs d Yes No fails passes None none = sym (first_all p (length xs) (λ k l. passes k l (none k d (omega arith) l)))
-first_position p xs d Yes No fails passes (Some i) found =
-    sym (first_at p i (length xs) (first_all p i (λ k l. passes k (omega arith) (found.2 k d (omega arith) l))) (fails i found.0 (found.1 d)) found.0)
 
 -- where a check passed, there is no reason to refuse
 pub none_of : {X : Type 0} (o : Option Refusal) (x y : X) → Ok y ≡ unless o x → o ≡ None

@@ -41,7 +41,8 @@ use Rattle.opening.specs.declared.refusal.List.{List as Name}
 use Rattle.opening.specs.declared.refusal.List.TheVariants as name
 use Rattle.opening.specs.declared.refusal.Refusal.{Refusal}
 use Rattle.opening.specs.declared.refusal.Refusal.TheVariants.{Place, Asymmetric, Length, Limit, Slip}
-use Rattle.opening.proofs.Firsts.{none_of, or_none, or_both, of_none, of_all, mapped_none, cond_none, first_all, six_none, six_in}
+use Rattle.terms.proofs.Firsts.{first_all}
+use Rattle.opening.proofs.Firsts.{none_of, or_none, or_both, of_none, of_all, mapped_none, cond_none, six_none, six_in}
 
 -- sizes
 

@@ -84,6 +84,7 @@ impl Lists<'_> {
         check_order(List::LowerBounds, self.l, self.u)?;
         check_order(List::LowerLimits, self.lo, self.hi)
     }
+
     /// Lengths, limits, order.
     pub(crate) fn check(&self, ropes: usize, rows: usize) -> Result<(), Refusal>
         requires { ropes ≤ 64 }

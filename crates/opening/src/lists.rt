@@ -1,4 +1,6 @@
 /// What a plan is opened from, beside its tables. The slip stands row by row.
+///
+/// Each list comes as its caller holds it, of any length, so that a refusal can name the one that is wrong.
 #[derive(Clone, Copy)]
 pub struct Lists<'a> {
     pub c: &'a [i64],

@@ -68,6 +68,7 @@ impl<'a, G: Table> Slip<'a, G> {
         requires row { i < self.now.ropes }
         ensures { result ≡ around_of self.now.ropes (remainder self.now.ropes (matrix_of (G.Table.meant self.now.g.now)) (by_rows self.now.ropes self.now.numbers.now)) i }
     {
+        // No chain: of a `sum` of signed numbers no bound is known.
         let mut sum = 0i64;
         for j in 0..self.ropes {
             sum += self.beside(i, j);

@@ -7,7 +7,7 @@ ghost use Rattle.opening.specs.Opening.{is_square, is_lined, sizes_fault, places
 
 use crate::refusal::Refusal;
 use table::Table;
-use terms::{MOST_ROPES, MOST_ROWS};
+use terms::{MOST_ROPES, MOST_ROWS, within};
 
 const CURVATURE_LIMIT: u64 = 4_096;
 
@@ -54,10 +54,7 @@ fn check_places<T: Table>(limit: u64, t: &T) -> Result<(), Refusal>
 {
     for row in 0..t.height() {
         for column in 0..t.width() {
-            if !t
-                .place(row, column)
-                .is_some_and(|x| x.unsigned_abs() <= limit)
-            {
+            if !t.place(row, column).is_some_and(|x| within(limit, x)) {
                 return Err(Refusal::Place { row, column });
             }
         }

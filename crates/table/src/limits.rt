@@ -2,7 +2,7 @@
 ghost use Rattle.std.specs.Prelude.{◌≡◌, Some};
 ghost use Rattle.table.specs.Grid.{cut, limited};
 
-use terms::PLACE_LIMIT;
+use terms::{PLACE_LIMIT, within};
 
 /// The most rows, and the most columns, that a table has.
 pub const SIZE_LIMIT: usize = 64;
@@ -18,5 +18,5 @@ pub fn cut_size(size: i64) -> usize
 pub fn limit_number(number: i64) -> Option<i64>
     ensures { result ≡ limited (Some number) }
 {
-    (number.unsigned_abs() <= PLACE_LIMIT).then_some(number)
+    within(PLACE_LIMIT, number).then_some(number)
 }

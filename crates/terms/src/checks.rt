@@ -21,12 +21,7 @@ pub fn between(low: i64, high: i64, x: i64) -> bool
 pub fn first_beyond(limit: u64, xs: &[i64]) -> Option<usize>
     ensures { result ≡ first_not (λ k. is_within limit (places xs.now k)) (length xs.now) }
 {
-    for (i, x) in xs.iter().enumerate() {
-        if !within(limit, *x) {
-            return Some(i);
-        }
-    }
-    None
+    xs.iter().position(|x| !within(limit, *x))
 }
 
 /// Whether each number lies within ±limit.
@@ -47,13 +42,5 @@ pub fn many_within(n: usize, limit: u64, xs: &[i64]) -> bool
 pub fn in_order(lows: &[i64], highs: &[i64]) -> bool
     ensures { result ≡ (length lows.now == length highs.now && in_order lows.now highs.now) }
 {
-    if lows.len() != highs.len() {
-        return false;
-    }
-    for (low, high) in lows.iter().zip(highs) {
-        if low > high {
-            return false;
-        }
-    }
-    true
+    lows.len() == highs.len() && lows.iter().zip(highs).all(|(low, high)| low <= high)
 }

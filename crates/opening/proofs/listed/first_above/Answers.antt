@@ -5,7 +5,7 @@ use Rattle.std.proofs.lemmas.Slice.Zip.{length-zip, get_or-zip}
 use Rattle.std.specs.List.{zip}
 use Rattle.duality.specs.Lists.{places}
 use Rattle.duality.proofs.Tests.{le_le_z, lt_le_z}
-use Rattle.opening.proofs.Firsts.{first_position}
+use Rattle.terms.proofs.Firsts.{first_position}
 use Rattle.opening.proofs.listed.first_above.Goals as goal
 
 pub returns : goal.returns

@@ -1,12 +1,15 @@
-use Rattle.std.proofs.Common.{◌≡◌, false, sym, w64, SFits, rules}
-use Rattle.std.proofs.lemmas.Int.{to_z-of_z}
+use Rattle.std.proofs.Common.{◌≡◌, true, false, pos, rules, tests}
+use Rattle.std.proofs.lemmas.Iterator.{IsFirst-from_position, YieldsList-from_slice}
 use Rattle.duality.specs.Lists.{places}
 use Rattle.duality.specs.Tests.{within as is_within}
-use Rattle.duality.proofs.Tests.{first_at}
+use Rattle.terms.proofs.Firsts.{first_position}
 use Rattle.terms.proofs.checks.first_beyond.Goals as goal
 
-pub returns-then-not-within : goal.returns-then-not-within
-returns-then-not-within c =
-    let f : SFits w64 (places c.args.xs.now c.loop-i.i) = search rules in
-    let e : is_within c.args.limit (places c.args.xs.now c.loop-i.i) ≡ false = search (rules, to_z-of_z) in
-    sym (first_at (λ k. is_within c.args.limit (places c.args.xs.now k)) c.loop-i.i _ c.loop-i.invariant e c.loop-i-test.true)
+pub returns : goal.returns
+returns c =
+    let limit = c.args.limit in
+    let xs = c.args.xs.now in
+    first_position (λ k. is_within limit (places xs k)) xs (pos 0) (λ x. is_within limit x ≡ false) (λ x. is_within limit x ≡ true) (λ k l h. h) (λ k l h. h)
+    c.position.result
+    (IsFirst-from_position c.position.new.self _ c.position.result (λ x. is_within limit x ≡ false) (λ x. is_within limit x ≡ true) c.position.ensures.ran
+    (YieldsList-from_slice xs cc) (λ x q k. search (rules, tests)) (λ x q k. search (rules, tests)))

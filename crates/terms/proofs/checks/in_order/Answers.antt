@@ -1,22 +1,28 @@
-use Rattle.std.proofs.Common.{◌≡◌, false, length, ◌==◌, ◌<ℤ◌, sym, pos, w64, SFits, rules}
+use Rattle.std.proofs.Common.{◌≡◌, ℕ, ◌<◌, length, pos, ◌≤ℤ◌, ◌<ℤ◌, rules, tests, arith}
 use lib.Signed.{le_z}
-use Rattle.std.proofs.lemmas.Int.{ints}
-use Rattle.std.proofs.lemmas.Bool.{and_right}
-use Rattle.std.proofs.lemmas.Slice.Zip.{zip_turn}
+use Rattle.std.proofs.lemmas.Bool.{eq-eqb}
+use Rattle.std.proofs.lemmas.Iterator.{cases_from_all, YieldsList-from_slice, YieldsList-from_zip}
+use Rattle.std.proofs.lemmas.Slice.Zip.{length-zip, get_or-zip}
+use Rattle.std.specs.List.{zip}
 use Rattle.duality.specs.Lists.{places}
 use Rattle.duality.specs.Tests.{in_order}
-use Rattle.duality.proofs.Tests.{all_not, lt_le_z}
+use Rattle.duality.proofs.Tests.{le_le_z, lt_le_z}
+use Rattle.terms.proofs.Firsts.{all_places}
 use Rattle.terms.proofs.checks.in_order.Goals as goal
 
-pub returns-then-low-high : goal.returns-then-low-high
-returns-then-low-high c =
-    let z =
-    zip_turn c.args.lows.now c.args.highs.now c.loop-low.yielded _ c.loop-low.low-iterator c.next.new.self c.next.result (cc) (cc) c.loop-low.yielded_by
-    (c.in-Some.low, c.in-Some.high) c.in-Some.is c.next.ensures.steps in
-    let fl : SFits w64 c.in-Some.low.now = search rules in
-    let fh : SFits w64 c.in-Some.high.now = search rules in
-    let h : c.in-Some.high.now <ℤ c.in-Some.low.now = search (rules, ints) in
-    let d : places c.args.highs.now (length c.loop-low.yielded) <ℤ places c.args.lows.now (length c.loop-low.yielded) = rw (sym (z.2 (pos 0)), sym (z.3 (pos 0))) h in
-    let e : in_order c.args.lows.now c.args.highs.now ≡ false =
-    all_not (λ k. le_z (places c.args.lows.now k) (places c.args.highs.now k)) (length c.loop-low.yielded) _ (lt_le_z _ _ d) z.0 in
-    sym (and_right (length c.args.lows.now == length c.args.highs.now) _ e)
+pub returns-then-lows-highs : goal.returns-then-lows-highs
+returns-then-lows-highs c =
+    let lows = c.args.lows.now in
+    let highs = c.args.highs.now in
+    let same : length lows ≡ length highs = omega (arith, c.if-lows-highs.true) in
+    let long : length (zip lows highs) ≡ length lows = let l = length-zip lows highs in omega arith in
+    let at = λ (k : ℕ) (l : k < length (zip lows highs)). get_or-zip lows highs k (pos 0, pos 0) (omega arith) (omega arith) in
+    let each : c.all.result ≡ in_order lows highs =
+    rw long at
+    (all_places (λ k. le_z (places lows k) (places highs k)) (zip lows highs) (pos 0, pos 0) (λ p. p.0 ≤ℤ p.1) (λ p. p.1 <ℤ p.0)
+    (λ k l h. le_le_z _ _ (rw (at k l) at h))
+    (λ k l h. lt_le_z _ _ (rw (at k l) at h))
+    c.all.result
+    (cases_from_all c.all.new.self _ c.all.result (λ p. p.0 ≤ℤ p.1) (λ p. p.1 <ℤ p.0) c.all.ensures.ran
+    (YieldsList-from_zip (YieldsList-from_slice lows cc) (YieldsList-from_slice highs cc)) (λ x q k. search (rules, tests)) (λ x q k. search (rules, tests)))) in
+    rw (eq-eqb _ _ same) each
