@@ -38,7 +38,7 @@ impl System {
     }
 }
 
-// (beside the method: a part of a field cannot be lent from behind `&mut self` where the struct has a ghost field)
+// No method, because a part of a field cannot be lent from behind `&mut self` where the struct has a ghost field.
 fn clear_below(lines: &mut [[f64; 33]], size: usize, k: usize)
     requires line { k < size }
     requires size { size ≤ length lines.old }
@@ -74,7 +74,7 @@ fn subtract_multiple(line: &mut [f64], f: f64, pivot_line: &[f64])
     requires { length line.old ≡ length pivot_line.now }
     ensures { line.new ≡ less f line.old pivot_line.now }
 {
-    // (after a zip of `iter_mut` a proof knows no element)
+    // Counted and not zipped, because after a zip of `iter_mut` a proof knows no element.
     for (i, x) in line.iter_mut().enumerate() {
         *x -= f * pivot_line[i];
     }

@@ -33,7 +33,7 @@ pub fn solve(lines: [[f64; 33]; 32], n: usize, mut smallest: f64) -> Solution
     ensures unknowns { result.unknowns ≡ option_map padded (solved_in n smallest lines).1 }
     ensures law { Solves n (solved_in n smallest lines).1 }
 {
-    // (a square and a number of lines, and no `Vec`: a step of the exchange takes no memory)
+    // A square with a number of lines and no `Vec`, because a step of the exchange takes no memory.
     let unknowns = if n > 32 {
         None
     } else {

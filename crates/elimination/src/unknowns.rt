@@ -24,7 +24,6 @@ impl System {
         ensures { result ≡ option_map padded (unknowns_of self.now.size 0 (lines_of self.now)) }
     {
         let mut unknowns = [0.0; 32];
-        // (by index: k is the line's place and its unknown's, and those after it are read)
         for k in (0..self.size).rev() {
             let x = unknown(self.line(k), k, &unknowns[k + 1..self.size]);
             if !is_inside(x) {

@@ -80,7 +80,6 @@ impl Rounded<'_> {
                 side: Side::Lower,
             },
         };
-        // (by number: a limit is made of each, and no list is read)
         for i in 0..self.job.rows {
             best = self.worse(best, Limit::Row(i));
         }

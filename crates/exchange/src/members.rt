@@ -26,19 +26,19 @@ pub struct Member {
 }
 
 /// How many ticks a point lies outside a limit, and the member that would hold it inside.
-// (no `Option`: 0 ticks is what a limit has that is met, and where the search begins)
+// No `Option` is needed: 0 ticks is what a limit has that is met, and the search begins there.
 #[derive(Clone, Copy)]
 pub(crate) struct Breach {
     pub(crate) ticks: i64,
-    pub member: Member,
+    pub(crate) member: Member,
 }
 
 /// How far a multiplier lies on the wrong side of 0, and whose it is.
-// (no `Option`: 0 is the size that a right multiplier has, and where the search begins)
+// No `Option` is needed: 0 is the size that a right multiplier has, and the search begins there.
 #[derive(Clone, Copy)]
 pub(crate) struct Wrong {
-    pub size: u64,
-    pub place: usize,
+    pub(crate) size: u64,
+    pub(crate) place: usize,
 }
 
 /// What a step offers: a point inside the bounds, and a multiplier in 256ths for each row. Places past the ropes and the rows are 0.
@@ -62,7 +62,7 @@ pub enum Choice {
 }
 
 /// What a step came to.
-// (no `Result`: each of the three may end an exchange, and no caller passes one on with `?`)
+// Not a `Result`: each of the three may end an exchange, and no caller passes one on with `?`.
 #[derive(Clone, Copy, Debug, PartialEq, Eq)]
 pub enum Step {
     /// The job has other sizes than the exchange was made for: nothing was done.

@@ -7,9 +7,9 @@ ghost use Rattle.exchange.specs.Offers.{filled, inside_bounds, inside_limit, pre
 use crate::members::Limit;
 use crate::rounded::Rounded;
 use job::Job;
+use terms::MULTIPLIER_LIMIT;
 
-/// A multiplier's limit, in 256ths.
-const LIMIT: i64 = 16_777_216;
+const LIMIT: i64 = MULTIPLIER_LIMIT as i64;
 
 /// The pulls held inside the bounds.
 pub(crate) fn point_of(job: &Job, mut pulls: [i64; 16]) -> [i64; 16]
@@ -22,7 +22,7 @@ pub(crate) fn point_of(job: &Job, mut pulls: [i64; 16]) -> [i64; 16]
 fn inside_limit(pressure: i64) -> i64
     ensures { result ≡ inside_limit pressure }
 {
-    (-LIMIT).max(LIMIT.min(pressure))
+    pressure.clamp(-LIMIT, LIMIT)
 }
 
 impl Rounded<'_> {

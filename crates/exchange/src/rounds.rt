@@ -13,7 +13,7 @@ pub(crate) fn rounded(unknowns: &[f64]) -> [i64; 16]
     requires { length unknowns.now ≤ 16 }
     ensures { result ≡ filled 16 (pulled unknowns.now) }
 {
-    // (an array, and no `Vec`: a step takes no memory)
+    // An array, because a step of the exchange takes no memory.
     let mut whole = [0; 16];
     for (k, x) in unknowns.iter().enumerate() {
         whole[k] = nearest(*x);
@@ -21,7 +21,7 @@ pub(crate) fn rounded(unknowns: &[f64]) -> [i64; 16]
     whole
 }
 
-// (in place: `map` of an array copies it four times)
+// Changed in place, because `map` of an array copies it four times.
 fn in_parts(unknowns: &mut [f64])
     ensures { unknowns.new ≡ map in_parts_of unknowns.old }
 {

@@ -14,12 +14,10 @@ pub fn end_after(step: Step) -> Option<End>
     ensures { result ≡ end_after step }
 {
     match step {
-        Step::Refused => Some(End::Stuck),
-        Step::Stuck => Some(End::Stuck),
+        Step::Refused | Step::Stuck => Some(End::Stuck),
         Step::Found(_, Choice::Full) => Some(End::Full),
         Step::Found(_, Choice::Done) => Some(End::Done),
-        Step::Found(_, Choice::Enter(_)) => None,
-        Step::Found(_, Choice::Leave(_)) => None,
+        Step::Found(_, Choice::Enter(_) | Choice::Leave(_)) => None,
     }
 }
 
@@ -55,7 +53,6 @@ pub fn run(heap: Global, job: &Job, budget: usize) -> Result<Report, AllocError>
     ensures law { LawfulRun budget (exchanged (problem_of job.now) budget) }
 {
     let mut exchange = Exchange::new(heap, job)?;
-    // (k counts the steps begun, which the report says)
     for k in 0..budget {
         let step = exchange.step(job);
         if let Some(end) = end_after(step) {

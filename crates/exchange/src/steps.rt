@@ -76,8 +76,7 @@ impl Exchange {
             Choice::Leave(k) => {
                 let _ = self.members.remove(k);
             }
-            Choice::Full => {}
-            Choice::Done => {}
+            Choice::Full | Choice::Done => {}
         }
     }
 
@@ -100,7 +99,7 @@ impl Exchange {
             job,
             members: &self.members,
         };
-        // (written here, where `solve` takes it: a square that a function hands out is copied once more)
+        // The square is made here, where `solve` takes it: one that a function hands out is copied once more.
         let mut lines = [[0.0; 33]; 32];
         set.fill_square(&mut lines);
         let solution = solve(lines, set.size(), self.smallest);

@@ -42,7 +42,7 @@ fn row_weight(job: &Job, i: usize, j: usize) -> i64
     job.a[j * job.rows + i]
 }
 
-// (job and limit stand side by side: a struct of the two would be made anew for each entry)
+// Job and limit are passed side by side, because a struct of the two would be made anew for each entry.
 fn weight(job: &Job, limit: Limit, j: usize) -> i64
     requires limit { Of job.now.ropes job.now.rows limit }
     requires rope { j < job.now.ropes }
