@@ -39,7 +39,7 @@ impl<'a> CardTable<'a> {
         let n = cut_size(ropes);
         CardTable {
             bytes: card,
-            first: (1 + (n * n + 125) / 126) as u16,
+            first: (1 + (n * n).div_ceil(126)) as u16,
             rows: size_at(card, 8),
             columns: ropes,
         }

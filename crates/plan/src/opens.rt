@@ -27,24 +27,19 @@ fn unweighted(point: &[i64], rows: usize) -> HeldPair
     }
 }
 
-/// Terms of lists that fit.
-fn terms_of(
-    heap: Global,
-    c: &[i64],
-    l: &[i64],
-    u: &[i64],
-    lo: &[i64],
-    hi: &[i64],
-) -> Result<Terms, AllocError>
-    requires { fitting (numbers c.now l.now u.now lo.now hi.now) ≡ Some (numbers c.now l.now u.now lo.now hi.now) }
-    ensures { IfOk result (λ t. terms_of t ≡ numbers c.now l.now u.now lo.now hi.now) }
+/// The terms of lists that fit.
+fn terms_of(heap: Global, lists: &Lists) -> Result<Terms, AllocError>
+    requires { fitting (numbers lists.now.c.now lists.now.l.now lists.now.u.now lists.now.lo.now lists.now.hi.now)
+        ≡ Some (numbers lists.now.c.now lists.now.l.now lists.now.u.now lists.now.lo.now lists.now.hi.now) }
+    ensures { IfOk result (λ t. terms_of t
+        ≡ numbers lists.now.c.now lists.now.l.now lists.now.u.now lists.now.lo.now lists.now.hi.now) }
 {
     // Terms keep each list on the heap, so each takes its memory here.
-    let c = Vec::from_slice(heap, c)?;
-    let l = Vec::from_slice(heap, l)?;
-    let u = Vec::from_slice(heap, u)?;
-    let lo = Vec::from_slice(heap, lo)?;
-    let hi = Vec::from_slice(heap, hi)?;
+    let c = Vec::from_slice(heap, lists.c)?;
+    let l = Vec::from_slice(heap, lists.l)?;
+    let u = Vec::from_slice(heap, lists.u)?;
+    let lo = Vec::from_slice(heap, lists.lo)?;
+    let hi = Vec::from_slice(heap, lists.hi)?;
     Ok(Terms::new(c, l, u, lo, hi).unwrap())
 }
 
@@ -57,7 +52,7 @@ impl<G: Table + Drop, A: Table + Drop> Plan<G, A> {
         ensures { Opens (view G.Table.meant A.Table.meant) (G.Table.meant g) (A.Table.meant a) (numbers_of lists.now) result }
     {
         check_opening(&g, &a, lists)?;
-        let terms = terms_of(heap, lists.c, lists.l, lists.u, lists.lo, lists.hi)?;
+        let terms = terms_of(heap, lists)?;
         Ok(Plan {
             g,
             a,

@@ -39,22 +39,20 @@ fn refuse_bound(terms: &Terms, z: &[i64]) -> Result<(), Refusal>
     requires { many_within (vec_len terms.now.c) 32768 z.now ≡ true }
     ensures { (g a : Grid) → result ≡ unless (bound_refusal (problem_of g a terms.now) (places z.now)) tt }
 {
-    match check_bounds(terms, z) {
-        Ok(()) => Ok(()),
-        Err(Unmet::At(rope)) => Err(Refusal::Bound { rope }),
-        Err(Unmet::NoPoint) => unreachable(),
+    if let Err(Unmet::At(rope)) = check_bounds(terms, z) {
+        return Err(Refusal::Bound { rope });
     }
+    Ok(())
 }
 
 fn refuse_row<T: Table>(a: &T, terms: &Terms, z: &[i64]) -> Result<(), Refusal>
     requires { many_within (vec_len terms.now.c) 32768 z.now ≡ true }
     ensures { (g : Grid) → result ≡ unless (row_refusal (problem_of g (T.Table.meant a.now) terms.now) (places z.now)) tt }
 {
-    match check_rows(a, terms, z) {
-        Ok(()) => Ok(()),
-        Err(Unmet::At(row)) => Err(Refusal::Row { row }),
-        Err(Unmet::NoPoint) => unreachable(),
+    if let Err(Unmet::At(row)) = check_rows(a, terms, z) {
+        return Err(Refusal::Row { row });
     }
+    Ok(())
 }
 
 /// Refuses a point, whatever G is, for its length, the first number beyond ±32,768, the first bound that it breaks, the first row.
