@@ -57,33 +57,39 @@ module _ (M : Matrix) (near : Near M) (t : Terms) (z : List ℤ) (p : many_withi
     price_back : back v ≡ places (vec_items t.c) i
     price_back = c_read t i v ev (omega (arith, many_long (vec_len t.c) 32768 z p))
 
-    pub row_fits : nat_abs (back r) ≤ 2 ^ 55
-    row_fits = rw (along_back i r er) (omega (arith, along_small i))
+    twice_small : nat_abs (pos 2 *ℤ back v) ≤ 2 ^ 29
+    twice_small = rw price_back (small_mul 2 268435456 (pos 2) (places (vec_items t.c) i) (omega arith) (c_small t i))
 
-    pub price_fits : nat_abs (back v) ≤ 268435456
-    price_fits = rw price_back (c_small t i)
+    pub twice_fits : SFits w64 (pos 2 *ℤ back v)
+    twice_fits = bits.fits (2 ^ 29) _ twice_small (omega arith)
 
-    -- s is the sum so far, q the slope
-    module _ (s q : ℤ) (es : s ≡ ∑ i (cost_part M t z)) (eq : q ≡ back r +ℤ pos 2 *ℤ back v) where
-      slope_back : back q ≡ steep M t z i
-      slope_back =
-          let x : back r ≡ row (length z) M (places z) i = along_back i r er in
-          let y : back v ≡ places (vec_items t.c) i = price_back in
-          let d : q ≡ steep M t z i = cc in
-          back_of (2 ^ 40) q _ d (steep_small i) (omega arith)
+    slope_is : back r +ℤ back (pos 2 *ℤ back v) ≡ steep M t z i
+    slope_is =
+        let x : back r ≡ row (length z) M (places z) i = along_back i r er in
+        let y : back v ≡ places (vec_items t.c) i = price_back in
+        let d : back (pos 2 *ℤ back v) ≡ pos 2 *ℤ back v = back_is (2 ^ 29) _ twice_small (omega arith) in
+        cc
 
+    pub slope_fits : SFits w64 (back r +ℤ back (pos 2 *ℤ back v))
+    slope_fits = rw slope_is (bits.fits (2 ^ 40) _ (steep_small i) (omega arith))
+
+    slope_back : back (back r +ℤ back (pos 2 *ℤ back v)) ≡ steep M t z i
+    slope_back = back_of (2 ^ 40) _ _ slope_is (steep_small i) (omega arith)
+
+    -- s is the sum so far
+    module _ (s : ℤ) (es : s ≡ ∑ i (cost_part M t z)) where
       part_fits : nat_abs (cost_part M t z i) ≤ 2 ^ 61
       part_fits = omega (arith, part_small i)
 
-      pub product_fits : SFits w64 (back (places z i) *ℤ back q)
-      product_fits = bits.product_fits s (back (places z i)) (back q) _ (places z i) (steep M t z i) es (place_back i) slope_back (total_small i l) part_fits
+      pub product_fits : SFits w64 (back (places z i) *ℤ back (back r +ℤ back (pos 2 *ℤ back v)))
+      product_fits = bits.product_fits s (back (places z i)) (back (back r +ℤ back (pos 2 *ℤ back v))) _ (places z i) (steep M t z i) es (place_back i) slope_back (total_small i l) part_fits
 
-      pub sum_fits : SFits w64 (s +ℤ back (back (places z i) *ℤ back q))
-      sum_fits = bits.sum_fits s (back (places z i)) (back q) _ (places z i) (steep M t z i) es (place_back i) slope_back (total_small i l) part_fits
+      pub sum_fits : SFits w64 (s +ℤ back (back (places z i) *ℤ back (back r +ℤ back (pos 2 *ℤ back v))))
+      sum_fits = bits.sum_fits s (back (places z i)) (back (back r +ℤ back (pos 2 *ℤ back v))) _ (places z i) (steep M t z i) es (place_back i) slope_back (total_small i l) part_fits
 
-      pub cost_more : back (s +ℤ back (back (places z i) *ℤ back q)) ≡ ∑ (i + 1) (cost_part M t z)
+      pub cost_more : back (s +ℤ back (back (places z i) *ℤ back (back r +ℤ back (pos 2 *ℤ back v)))) ≡ ∑ (i + 1) (cost_part M t z)
       cost_more =
-          bits.sum_more s (back (places z i)) (back q) _ (places z i) (steep M t z i) es (place_back i) slope_back (total_small i l) part_fits
+          bits.sum_more s (back (places z i)) (back (back r +ℤ back (pos 2 *ℤ back v))) _ (places z i) (steep M t z i) es (place_back i) slope_back (total_small i l) part_fits
           ∙ sym (∑-more i (cost_part M t z))
 
 pub cost_all : (g a : Grid) (t : Terms) (z : List ℤ) (i : ℕ) (s : ℤ) → length z ≡ vec_len t.c → i ≡ vec_len t.c → s ≡ ∑ i (cost_part (matrix_of g) t z) →

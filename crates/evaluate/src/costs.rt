@@ -6,7 +6,7 @@ ghost use Rattle.table.specs.Grid.{Grid};
 ghost use Rattle.evaluate.specs.Stated.{problem_of};
 ghost use Rattle.duality.specs.Tests.{many_within, answer};
 
-use crate::sums::{row_of, with_price};
+use crate::sums::row_of;
 use table::Table;
 use terms::{PULL_LIMIT, Terms, many_within};
 
@@ -20,7 +20,7 @@ pub fn cost<T: Table>(g: &T, terms: &Terms, z: &[i64]) -> Option<i64>
     }
     let mut total = 0;
     for (i, x) in z.iter().enumerate() {
-        total += *x * with_price(row_of(g, i, z), terms.c[i]);
+        total += *x * (row_of(g, i, z) + 2 * terms.c[i]);
     }
     Some(total)
 }

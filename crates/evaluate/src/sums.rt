@@ -1,20 +1,11 @@
 //! Sums of products of 64-bit numbers.
-ghost use Rattle.std.specs.Prelude.{◌≡◌, ℕ, ◌^◌, ◌≤◌, length, pos, ◌+ℤ◌, ◌*ℤ◌, unsigned_abs};
+ghost use Rattle.std.specs.Prelude.{◌≡◌, length};
 ghost use Rattle.duality.specs.Lists.{places};
 ghost use Rattle.duality.specs.Sums.{row};
 ghost use Rattle.table.specs.Grid.{matrix_of};
 ghost use Rattle.evaluate.specs.Sums.{Summable};
 
 use table::Table;
-
-/// A row's part of the cost's gradient.
-pub(crate) fn with_price(sum: i64, price: i64) -> i64
-    requires sum { unsigned_abs sum ≤ 2 ^ 55 }
-    requires price { unsigned_abs price ≤ 268435456 }
-    ensures { result ≡ sum +ℤ pos 2 *ℤ price }
-{
-    sum + 2 * price
-}
 
 /// Row i times z, place by place, with 0 for a blank.
 pub(crate) fn sum_of_places<T: Table>(table: &T, i: usize, z: &[i64]) -> i64

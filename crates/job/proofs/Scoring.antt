@@ -37,12 +37,25 @@ module _ (j : Job) (z : List ℤ) (p : many_within j.ropes 32768 z ≡ true) whe
       rw (e, f) (small_add (2 ^ 39) (2 ^ 39) (row j.ropes (problem_of j).G (places z) i) (column j.ropes (problem_of j).G (places z) i)
       (along_small j (places z) i small) (across_small j (places z) i small))
 
-  pub gradient_is : (i : ℕ) (x y v r : ℤ) → x ≡ row j.ropes (problem_of j).G (places z) i → y ≡ column j.ropes (problem_of j).G (places z) i →
-      v ≡ (problem_of j).c i → r ≡ back (x +ℤ y) +ℤ pos 2 *ℤ v → back r ≡ gradient (problem_of j) (places z) i
-  gradient_is i x y v r e f h er =
-      let b : back (x +ℤ y) ≡ x +ℤ y = back_is (2 ^ 40) (x +ℤ y) (both_small i x y e f) (omega arith) in
-      let d : r ≡ gradient (problem_of j) (places z) i = cc in
-      back_of (2 ^ 41) r _ d (gradient_small j (places z) i small) (omega arith)
+  twice_small : (i : ℕ) (v : ℤ) → v ≡ (problem_of j).c i → nat_abs (pos 2 *ℤ v) ≤ 2 ^ 29
+  twice_small i v e = rw e (small_mul 2 268435456 (pos 2) ((problem_of j).c i) (omega arith) (c_small j i))
+
+  pub twice_fits : (i : ℕ) (v : ℤ) → v ≡ (problem_of j).c i → SFits w64 (pos 2 *ℤ v)
+  twice_fits i v e = fits (2 ^ 29) _ (twice_small i v e) (lit< tt)
+
+  module _ (i : ℕ) (x y v : ℤ) (ex : x ≡ row j.ropes (problem_of j).G (places z) i) (ey : y ≡ column j.ropes (problem_of j).G (places z) i)
+      (ev : v ≡ (problem_of j).c i) where
+    sum_is : back (x +ℤ y) +ℤ back (pos 2 *ℤ v) ≡ gradient (problem_of j) (places z) i
+    sum_is =
+        let b : back (x +ℤ y) ≡ x +ℤ y = back_is (2 ^ 40) (x +ℤ y) (both_small i x y ex ey) (lit< tt) in
+        let t : back (pos 2 *ℤ v) ≡ pos 2 *ℤ v = back_is (2 ^ 29) (pos 2 *ℤ v) (twice_small i v ev) (lit< tt) in
+        cc
+
+    pub gradient_fits : SFits w64 (back (x +ℤ y) +ℤ back (pos 2 *ℤ v))
+    gradient_fits = fits (2 ^ 41) _ (small_of (2 ^ 41) _ _ sum_is (gradient_small j (places z) i small)) (lit< tt)
+
+    pub gradient_is : back (back (x +ℤ y) +ℤ back (pos 2 *ℤ v)) ≡ gradient (problem_of j) (places z) i
+    gradient_is = back_of (2 ^ 41) _ _ sum_is (gradient_small j (places z) i small) (lit< tt)
 
   -- the cost
   slope_small : (i : ℕ) → nat_abs (row j.ropes (problem_of j).G (places z) i +ℤ pos 2 *ℤ (problem_of j).c i) ≤ 2 ^ 40
@@ -53,9 +66,15 @@ module _ (j : Job) (z : List ℤ) (p : many_within j.ropes 32768 z ≡ true) whe
         small_add (2 ^ 39) (2 * 268435456) (row j.ropes (problem_of j).G (places z) i) (pos 2 *ℤ (problem_of j).c i) (along_small j (places z) i small) twice,
       )
 
-  pub slope_back : (i : ℕ) (x v s : ℤ) → x ≡ row j.ropes (problem_of j).G (places z) i → v ≡ (problem_of j).c i → s ≡ x +ℤ pos 2 *ℤ v →
-      back s ≡ row j.ropes (problem_of j).G (places z) i +ℤ pos 2 *ℤ (problem_of j).c i
-  slope_back i x v s e f h = let d : s ≡ row j.ropes (problem_of j).G (places z) i +ℤ pos 2 *ℤ (problem_of j).c i = cc in back_of (2 ^ 40) s _ d (slope_small i) (omega arith)
+  module _ (i : ℕ) (x v : ℤ) (ex : x ≡ row j.ropes (problem_of j).G (places z) i) (ev : v ≡ (problem_of j).c i) where
+    slope_is : x +ℤ back (pos 2 *ℤ v) ≡ row j.ropes (problem_of j).G (places z) i +ℤ pos 2 *ℤ (problem_of j).c i
+    slope_is = let t : back (pos 2 *ℤ v) ≡ pos 2 *ℤ v = back_is (2 ^ 29) (pos 2 *ℤ v) (twice_small i v ev) (lit< tt) in cc
+
+    pub slope_fits : SFits w64 (x +ℤ back (pos 2 *ℤ v))
+    slope_fits = fits (2 ^ 40) _ (small_of (2 ^ 40) _ _ slope_is (slope_small i)) (lit< tt)
+
+    pub slope_back : back (x +ℤ back (pos 2 *ℤ v)) ≡ row j.ropes (problem_of j).G (places z) i +ℤ pos 2 *ℤ (problem_of j).c i
+    slope_back = back_of (2 ^ 40) _ _ slope_is (slope_small i) (lit< tt)
 
   pub place_back : (i : ℕ) → back (places z i) ≡ places z i
   place_back i = back_is 32768 _ (small i) (omega arith)

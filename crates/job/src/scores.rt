@@ -1,5 +1,5 @@
 //! What a point costs, and what it does to the rows.
-ghost use Rattle.std.specs.Prelude.{◌≡◌, ◌^◌, ◌<◌, ◌≤◌, true, ◌&&◌, pos, ◌+ℤ◌, ◌*ℤ◌, IfSome, nat_lt, unsigned_abs};
+ghost use Rattle.std.specs.Prelude.{◌≡◌, ◌<◌, true, ◌&&◌, IfSome, nat_lt};
 ghost use Rattle.duality.specs.Lists.{places};
 ghost use Rattle.duality.specs.Problem.{row_at, cost as cost_of};
 ghost use Rattle.job.specs.Numbers.{problem_of};
@@ -10,15 +10,6 @@ ghost use Rattle.job.specs.Rows.{outside as outside_of, MetInside};
 use crate::numbers::Job;
 use crate::sums::strided_dot;
 use terms::{PULL_LIMIT, ROUNDED_LIMIT, excess, many_within};
-
-/// A row's part of the gradient, or of the cost.
-pub(crate) fn with_price(sum: i64, price: i64) -> i64
-    requires sum { unsigned_abs sum ≤ 2 ^ 55 }
-    requires price { unsigned_abs price ≤ 268435456 }
-    ensures { result ≡ sum +ℤ pos 2 *ℤ price }
-{
-    sum + 2 * price
-}
 
 impl Job {
     pub(crate) fn row_at(&self, i: usize, z: &[i64]) -> i64
@@ -52,7 +43,7 @@ impl Job {
         if j < self.ropes && many_within(self.ropes, PULL_LIMIT, z) {
             let along = strided_dot(&self.g, j * self.ropes, 1, z);
             let across = strided_dot(&self.g, j, self.ropes, z);
-            Some(with_price(along + across, self.c[j]))
+            Some(along + across + 2 * self.c[j])
         } else {
             None
         }
@@ -68,8 +59,7 @@ impl Job {
         let mut total = 0i64;
         for (i, x) in z.iter().enumerate() {
             let row = strided_dot(&self.g, i * self.ropes, 1, z);
-            let slope = with_price(row, self.c[i]);
-            total += *x * slope;
+            total += *x * (row + 2 * self.c[i]);
         }
         Some(total)
     }
