@@ -13,17 +13,6 @@ use opening::Refusal;
 use plan::Plan;
 use std::alloc::Global;
 
-fn open_card<'a>(
-    heap: Global,
-    card: &'a [u8],
-) -> Result<Plan<CardTable<'a>, CardTable<'a>>, Refusal>
-    ensures answer { (memory : Bool) × (viewed result ≡ load_answer memory card.now) }
-    ensures sound { IfOk result (λ p. Sound (curvature_grid card.now) (rows_grid card.now) (lists_on card.now) (view grid_of grid_of p)) }
-{
-    let job = read_job(heap, card)?;
-    Plan::open(heap, job.g, job.a, &job.lists.lists())
-}
-
 /// Opens a plan from a card, whose tables are read in place, or refuses: with the card's first fault, with what opening refuses, or for want of memory.
 ///
 /// A card that opens is, written again, the same bytes.
@@ -32,5 +21,6 @@ pub fn load<'a>(heap: Global, card: &'a [u8]) -> Result<Plan<CardTable<'a>, Card
     ensures sound { IfOk result (λ p. Sound (curvature_grid card.now) (rows_grid card.now) (lists_on card.now) (view grid_of grid_of p)) }
     ensures again { SameAgain card.now }
 {
-    open_card(heap, card)
+    let job = read_job(heap, card)?;
+    Plan::open(heap, job.g, job.a, &job.lists.lists())
 }

@@ -1,5 +1,6 @@
 //! The numbers of tables and lists as a card holds them, in four bytes each.
-ghost use Rattle.std.specs.Prelude.{◌≡◌, ◌<◌, ◌≤◌, ◌++◌, IfOk, OnOk};
+ghost use Rattle.std.specs.Prelude.{◌≡◌, ◌≤◌, ◌++◌, map, IfOk, OnOk};
+ghost use Rattle.std.specs.List.{range_with_len};
 ghost use Rattle.table.specs.Grid.{matrix_of};
 ghost use Rattle.opening.specs.Fits.{Near};
 ghost use Rattle.reading.specs.Plain.{listed};
@@ -7,11 +8,16 @@ ghost use Rattle.reading.specs.Plain.{listed};
 use std::alloc::{AllocError, Global};
 use table::Table;
 
-/// The number at a place, 0 at a blank. Four bytes hold it, since a place has a limit.
-fn number_at<T: Table>(t: &T, i: usize, j: usize) -> i32
-    ensures { result ≡ matrix_of (T.Table.meant t.now) i j }
+/// Adds the first numbers of row i. Four bytes hold each, since a place has a limit.
+fn push_row<T: Table>(
+    numbers: &mut Vec<i32>,
+    t: &T,
+    i: usize,
+    columns: usize,
+) -> Result<(), AllocError>
+    ensures { OnOk result (numbers.new.items ≡ numbers.old.items ++ map (matrix_of (T.Table.meant t.now) i) (range_with_len 0 columns)) }
 {
-    t.place(i, j).unwrap_or(0) as i32
+    numbers.extend((0..columns).map(|j| t.place(i, j).unwrap_or(0) as i32))
 }
 
 /// The numbers of a table of these sizes, row by row.
@@ -28,9 +34,7 @@ pub(crate) fn table_numbers<T: Table>(
     let count = rows * columns;
     let mut numbers = Vec::with_capacity(heap, count)?;
     for i in 0..rows {
-        for j in 0..columns {
-            numbers.push(number_at(t, i, j))?;
-        }
+        push_row(&mut numbers, t, i, columns)?;
     }
     Ok(numbers)
 }

@@ -1,11 +1,27 @@
+use Rattle.std.proofs.lemmas.Result.{err_from_is_err_and}
+use Rattle.card.specs.Grids.{grid_of}
 use Rattle.card.proofs.Whole.{card_back}
+use Rattle.opening.specs.Opening.{numbers_of}
+use Rattle.sheet.specs.Reading.{Job, lists_of}
 use Rattle.sheet.proofs.Carrying.{same_again}
+use Rattle.sheet.proofs.Opening.{loaded, loaded_sound, not_read}
 use Rattle.sheet.proofs.loads.load.Goals as goal
 
 pub returns : goal.returns
 returns c =
+    let card = c.args.card.now in
+    let job = c.in_ok-job.job in
+    let j : Job = record { g = grid_of job.g; a = grid_of job.a; x = lists_of job.lists } in
     record {
-      answer = c.open_card.ensures.answer;
-      sound = c.open_card.ensures.sound;
-      again = same_again c.args.card.now (card_back c.args.card.now (λ k. (c.type_inv.card k).fits));
+      answer = loaded card j c.in_ok-job.ensures (numbers_of c.lists.result) c.lists.ensures c.open.result c.open.ensures;
+      sound = loaded_sound card j c.in_ok-job.ensures (numbers_of c.lists.result) c.lists.ensures c.open.result c.open.ensures;
+      again = same_again card (card_back card (λ k. (c.type_inv.card k).fits));
     }
+
+pub returns-in_err-job-clause-answer : goal.returns-in_err-job-clause-answer
+returns-in_err-job-clause-answer c =
+    let p = err_from_is_err_and c.from_residual.result c.from_residual.ensures.1 in
+    rw (p.1, p.2) (not_read c.args.card.now c.in_err-job.field-0.0 c.in_err-job.ensures)
+
+pub returns-in_err-job-clause-again : goal.returns-in_err-job-clause-again
+returns-in_err-job-clause-again c = same_again c.args.card.now (card_back c.args.card.now (λ k. (c.type_inv.card k).fits))
