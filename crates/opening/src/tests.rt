@@ -13,16 +13,8 @@ fn told(checked: Result<(), Refusal>) -> (u8, usize, usize) {
     }
 }
 
-fn record(row: i64, column: i64, number: i64) -> Record {
-    Record {
-        row,
-        column,
-        number,
-    }
-}
-
 fn one_rope(slip: i64) -> (u8, usize, usize) {
-    let records = [record(0, 0, 3)];
+    let records = [Record::new(0, 0, 3)];
     let g = Triplets::new(1, 1, &records);
     let a = Triplets::new(0, 7, &records);
     let low = [-32_768];
@@ -50,7 +42,11 @@ fn slip_at_its_edge(rt: HostRuntime) {
 
 #[test]
 fn asymmetry_before_lengths(rt: HostRuntime) {
-    let records = [record(0, 0, 3), record(1, 0, 1), record(1, 1, 3)];
+    let records = [
+        Record::new(0, 0, 3),
+        Record::new(1, 0, 1),
+        Record::new(1, 1, 3),
+    ];
     let g = Triplets::new(2, 2, &records);
     let a = Triplets::new(0, 0, &records);
     let short = [0];

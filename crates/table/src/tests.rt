@@ -2,17 +2,9 @@ use crate::interface::Table;
 use crate::layers::{Flip, Sum};
 use crate::triplets::{Record, Triplets};
 
-fn record(row: i64, column: i64, number: i64) -> Record {
-    Record {
-        row,
-        column,
-        number,
-    }
-}
-
 #[test]
 fn blank_throughout(rt: HostRuntime) {
-    let records = [record(0, 0, 1_048_577)];
+    let records = [Record::new(0, 0, 1_048_577)];
     let table = Triplets::new(1, 1, &records);
     assert_eq!(rt; table.place(0, 0), None);
     assert_eq!(rt; table.product(0, &[0]), None);
@@ -29,10 +21,10 @@ fn sizes_are_cut(rt: HostRuntime) {
 #[test]
 fn first_record_counts(rt: HostRuntime) {
     let records = [
-        record(-1, 0, 9),
-        record(0, 64, 9),
-        record(0, 1, 1_048_576),
-        record(0, 1, 8),
+        Record::new(-1, 0, 9),
+        Record::new(0, 64, 9),
+        Record::new(0, 1, 1_048_576),
+        Record::new(0, 1, 8),
     ];
     let table = Triplets::new(1, 2, &records);
     assert_eq!(rt; table.place(0, 0), Some(0));
@@ -41,7 +33,7 @@ fn first_record_counts(rt: HostRuntime) {
 
 #[test]
 fn layers(rt: HostRuntime) {
-    let records = [record(0, 1, 1_048_576), record(1, 0, 3)];
+    let records = [Record::new(0, 1, 1_048_576), Record::new(1, 0, 3)];
     let table = Triplets::new(2, 3, &records);
     let flip = Flip::over(table);
     assert_eq!(rt; flip.product(0, &[10, 100]), Some(300));

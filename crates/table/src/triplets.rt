@@ -32,6 +32,17 @@ fn is_index(z: i64, k: usize) -> bool
 }
 
 impl Record {
+    /// A number for the place in this row and column.
+    pub fn new(row: i64, column: i64, number: i64) -> Record
+        ensures { result ≡ record { row = row; column = column; number = number } }
+    {
+        Record {
+            row,
+            column,
+            number,
+        }
+    }
+
     /// Whether the record is for the place in row `i` and column `j`.
     fn is_for(&self, i: usize, j: usize) -> bool
         ensures { result ≡ is_for self.now i j }
