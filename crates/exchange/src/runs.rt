@@ -33,7 +33,8 @@ impl Exchange {
         }
     }
 
-    fn report(&self, steps: usize, end: End) -> Report
+    /// What is said of an exchange that ends here, so many steps begun.
+    pub fn report(&self, steps: usize, end: End) -> Report
         ensures steps { result.steps ≡ steps }
         ensures end { result.end ≡ end }
         ensures smallest { result.smallest ≡ reported self.now.smallest }

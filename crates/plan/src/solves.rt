@@ -98,18 +98,10 @@ impl<G: Table, A: Table> Plan<G, A> {
             let step = exchange.step(job);
             self.offer_step(step, at);
             if let Some(end) = end_after(step) {
-                return Exchanged {
-                    steps: k + 1,
-                    end,
-                    smallest: exchange.smallest_pivot(),
-                };
+                return exchange.report(k + 1, end);
             }
         }
-        Exchanged {
-            steps: budget,
-            end: End::Spent,
-            smallest: exchange.smallest_pivot(),
-        }
+        exchange.report(budget, End::Spent)
     }
 
     /// Puts the held point into the list, if there is one.

@@ -48,13 +48,7 @@ fn gain(slope: i64, curve: i64, d: i64) -> i64
 fn lower(before: i64, after: i64, by: i64) -> bool
     ensures { result ≡ lower_of before (pos 0) after by }
 {
-    if after < before {
-        true
-    } else if before < after {
-        false
-    } else {
-        by < 0
-    }
+    after < before || (after == before && by < 0)
 }
 
 /// Each row's sum after a shift.

@@ -82,9 +82,9 @@ returns-in-Some g c =
     record {
       report =
           record {
-            steps = omega (arith, more_steps P B k s₀ s s' z₀ z z' n m ms f st i es ez rest er);
-            end = more_ending P B k s₀ s s' z₀ z z' n m ms f st i es ez rest er;
-            smallest = c.smallest_pivot.ensures ∙ ap reported (more_smallest P B k s₀ s s' z₀ z z' n m ms f st i es ez rest er);
+            steps = omega (arith, c.report.ensures.steps, more_steps P B k s₀ s s' z₀ z z' n m ms f st i es ez rest er);
+            end = c.report.ensures.end ∙ more_ending P B k s₀ s s' z₀ z z' n m ms f st i es ez rest er;
+            smallest = c.report.ensures.smallest ∙ ap reported (more_smallest P B k s₀ s s' z₀ z z' n m ms f st i es ez rest er);
           };
       after = more_taken P B k s₀ s s' z₀ z z' n m ms f st i es ez rest er;
       last = more_last P B k s₀ s s' z₀ z z' n m ms f st i es ez rest er;
