@@ -1,4 +1,4 @@
-pub mod Gathering
+pub mod Narrowing
 pub mod Flat
 pub mod Counts
 pub mod Moving

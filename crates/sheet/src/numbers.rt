@@ -44,10 +44,7 @@ fn push_numbers(numbers: &mut Vec<i32>, xs: &[i64]) -> Result<(), AllocError>
     requires { Near 536870912 xs.now }
     ensures { OnOk result (numbers.new.items ≡ numbers.old.items ++ xs.now) }
 {
-    for x in xs {
-        numbers.push(*x as i32)?;
-    }
-    Ok(())
+    numbers.extend(xs.iter().map(|x| *x as i32))
 }
 
 /// The numbers of two lists, one after the other.

@@ -25,11 +25,7 @@ fn read_section(
     let count = sizes.count(kind);
     let start = sizes.first(kind) as usize * 512;
     let mut numbers = Vec::with_capacity(heap, count as usize)?;
-    // As a chain over this range, what `collect` gathers stays unproved.
-    for q in 0..count {
-        let number = number_at(card, start + spot_of(q)).unwrap_or(0);
-        numbers.push(number as i64)?;
-    }
+    numbers.extend((0..count).map(|q| number_at(card, start + spot_of(q)).unwrap_or(0) as i64))?;
     Ok(numbers)
 }
 

@@ -1,19 +1,25 @@
-use Rattle.std.proofs.Common.{◌++◌, vec_items, sym, ap, ◌∙◌}
-use Rattle.std.proofs.lemmas.List.{append-nil, take_all}
-use Rattle.duality.specs.Lists.{places}
-use Rattle.sheet.proofs.Gathering.{narrow_back, narrow_fits, onto_more}
+use Rattle.std.proofs.Common.{◌≡◌, ap, ◌∙◌, rules}
+use Rattle.std.proofs.lemmas.Iterator.{YieldsList-from_slice, YieldsList-from_map}
+use Rattle.std.proofs.lemmas.Iterator.Adapters.{items_from_extend, serves_from_places}
+use Rattle.sheet.proofs.Narrowing.{narrow, narrow_all, narrow_near}
 use Rattle.sheet.proofs.numbers.push_numbers.Goals as goal
 
-pub overflow_cast-x : goal.overflow_cast-x
-overflow_cast-x c = narrow_fits (places c.args.xs.now c.loop-x.x-index) (c.requires c.loop-x.x-index c.loop-x-test.true)
-
-pub loop-x-init : goal.loop-x-init
-loop-x-init c = sym (append-nil (vec_items c.args.numbers.now))
-
-pub loop-x-preserved : goal.loop-x-preserved
-loop-x-preserved c =
-    onto_more (vec_items c.args.numbers.now) c.args.xs.now (vec_items c.loop-x.numbers) (vec_items c.push.new.self) c.loop-x.x-index _ c.loop-x.invariant
-    c.in_ok-push.ensures.items (narrow_back (places c.args.xs.now c.loop-x.x-index) (c.requires c.loop-x.x-index c.loop-x-test.true)) c.loop-x-test.true
+pub extend-requires : goal.extend-requires
+extend-requires c it h =
+    let rest : it.iter.rest.now ≡ c.args.xs.now = ap (λ m. m.iter.rest.now) h ∙ ap (λ i. i.rest.now) c.map.ensures.source ∙ c.iter.ensures.rest in (
+      (
+        tt,
+        serves_from_places (YieldsList-from_slice c.args.xs.now rest) (λ x q k. search rules)
+            (λ x k below at. let fits = narrow_near c.args.xs.now c.requires k x.now below at in search rules),
+      ),
+      tt,
+      search rules,
+    )
 
 pub returns : goal.returns
-returns c = c.loop-x.invariant ∙ ap (λ xs. vec_items c.args.numbers.now ++ xs) (take_all c.loop-x.x-index c.args.xs.now c.loop-x-test.false)
+returns c =
+    let rest = ap (λ i. i.rest.now) c.map.ensures.source ∙ c.iter.ensures.rest in
+    let h = items_from_extend c.extend.result c.extend.ensures.ran
+    (YieldsList-from_map _ narrow (YieldsList-from_slice c.args.xs.now rest) c.map.ensures.closure (λ x r q k. search rules)) in
+    let e = narrow_all c.args.xs.now c.requires in
+    search rules
