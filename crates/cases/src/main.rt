@@ -5,7 +5,7 @@ use anyhow::anyhow;
 use card::{CardTable, Contents, Numbers, Sizes, check_card};
 use evaluate::{Pair, Terms, Unmet, check_rows, cost, floor, refutes};
 use opening::{Lists, Refusal, check_opening};
-use small_job::{LISTS, record};
+use small_job::LISTS;
 use std::alloc::Global;
 use std::io;
 use table::{Flip, Record, Sum, Table, Triplets};
@@ -55,17 +55,17 @@ fn sizes(rt: &HostRuntime) -> io::Result<()> {
 }
 
 fn blank_throughout(rt: &HostRuntime) -> io::Result<()> {
-    let records = [record(0, 0, 1048577)];
+    let records = [Record::new(0, 0, 1048577)];
     print_table(rt, "blank throughout", &Triplets::new(1, 1, &records))
 }
 
 fn layers(rt: &HostRuntime, card: &[u8]) -> io::Result<()> {
     let records = [
-        record(0, 1, 5),
-        record(1, 0, -7),
-        record(0, 1, 9),
-        record(2, 0, 4),
-        record(-1, 0, 3),
+        Record::new(0, 1, 5),
+        Record::new(1, 0, -7),
+        Record::new(0, 1, 9),
+        Record::new(2, 0, 4),
+        Record::new(-1, 0, 3),
     ];
     let triplets = Triplets::new(2, 3, &records);
     print_table(rt, "records out of range", &triplets)?;
@@ -117,17 +117,17 @@ fn open_zeros(rt: &HostRuntime, name: &str, n: i64, records: &[Record]) -> anyho
 fn open_sizes(rt: &HostRuntime) -> anyhow::Result<()> {
     open_zeros(rt, "16 ropes", 16, &[])?;
     open_zeros(rt, "17 ropes", 17, &[])?;
-    open_zeros(rt, "4096 in G", 1, &[record(0, 0, 4096)])?;
-    open_zeros(rt, "4097 in G", 1, &[record(0, 0, 4097)])
+    open_zeros(rt, "4096 in G", 1, &[Record::new(0, 0, 4096)])?;
+    open_zeros(rt, "4097 in G", 1, &[Record::new(0, 0, 4097)])
 }
 
 /// G = (1, 2; 2, 4), which no slip of zeros shows to be convex.
 fn open_flat(rt: &HostRuntime, name: &str, slip: &[i64]) -> io::Result<()> {
     let records = [
-        record(0, 0, 1),
-        record(0, 1, 2),
-        record(1, 0, 2),
-        record(1, 1, 4),
+        Record::new(0, 0, 1),
+        Record::new(0, 1, 2),
+        Record::new(1, 0, 2),
+        Record::new(1, 1, 4),
     ];
     let g = Triplets::new(2, 2, &records);
     let a = Triplets::new(0, 7, &[]);

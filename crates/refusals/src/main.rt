@@ -10,7 +10,7 @@ use plan::Plan;
 use print::{print_plan, print_refusal};
 use session::{Answer, Call, Pair, session};
 use sheet::{load, write};
-use small_job::{CURVATURE, LISTS, ROW, record};
+use small_job::{CURVATURE, LISTS, ROW};
 use std::alloc::Global;
 use std::io;
 use std::io::Write;
@@ -195,14 +195,14 @@ fn table_sizes(rt: &HostRuntime) -> io::Result<()> {
 }
 
 fn table_places(rt: &HostRuntime) -> io::Result<()> {
-    let wild = [record(1, 1, 4097)];
-    let crooked = [record(1, 0, 1)];
-    let beyond = [record(0, 1, 1025)];
-    open_records(rt, "4096 in G", &[record(1, 1, 4096)], &[])?;
+    let wild = [Record::new(1, 1, 4097)];
+    let crooked = [Record::new(1, 0, 1)];
+    let beyond = [Record::new(0, 1, 1025)];
+    open_records(rt, "4096 in G", &[Record::new(1, 1, 4096)], &[])?;
     open_records(rt, "4097 in G", &wild, &[])?;
-    open_records(rt, "-1024 in A", &[], &[record(0, 1, -1024)])?;
-    open_records(rt, "-1025 in A", &[], &[record(0, 1, -1025)])?;
-    open_records(rt, "blank in A", &[], &[record(0, 0, 1048577)])?;
+    open_records(rt, "-1024 in A", &[], &[Record::new(0, 1, -1024)])?;
+    open_records(rt, "-1025 in A", &[], &[Record::new(0, 1, -1025)])?;
+    open_records(rt, "blank in A", &[], &[Record::new(0, 0, 1048577)])?;
     open_records(rt, "G differs across its diagonal", &crooked, &[])?;
     open_records(rt, "4097 in G and 1025 in A", &wild, &beyond)?;
     open_records(rt, "1025 in A and G not symmetric", &crooked, &beyond)
@@ -254,7 +254,7 @@ fn list_numbers(rt: &HostRuntime) -> io::Result<()> {
 }
 
 fn list_order(rt: &HostRuntime) -> io::Result<()> {
-    let crooked = [record(1, 0, 1)];
+    let crooked = [Record::new(1, 0, 1)];
     let g = Triplets::new(2, 2, &crooked);
     let a = Triplets::new(1, 2, &[]);
     let lists = with(List::Costs, &[0, 0, 0]);
@@ -305,11 +305,11 @@ fn answered(rt: &HostRuntime, name: &str, answer: &Answer) -> io::Result<()> {
 /// Makes one call on a new plan of two ropes and three rows: J with the rows (1, 1) from 0 to 5, (1, -1) from -3 to 2 and (0, 1) from 0 to 2.
 fn ask(rt: &HostRuntime, name: &str, call: Call) -> io::Result<()> {
     let ones = [
-        record(0, 0, 1),
-        record(0, 1, 1),
-        record(1, 0, 1),
-        record(1, 1, -1),
-        record(2, 1, 1),
+        Record::new(0, 0, 1),
+        Record::new(0, 1, 1),
+        Record::new(1, 0, 1),
+        Record::new(1, 1, -1),
+        Record::new(2, 1, 1),
     ];
     let g = Triplets::new(2, 2, &CURVATURE);
     let a = Triplets::new(3, 2, &ones);

@@ -1,8 +1,4 @@
 //! J, the small job that programs run on: two ropes and one row.
-#![tactic(auto)]
-
-ghost use Rattle.std.specs.Prelude.{◌≡◌};
-
 use opening::Lists;
 use table::Record;
 
@@ -43,16 +39,3 @@ pub const LISTS: Lists<'static> = Lists {
     hi: &[3],
     slip: &[0, 0, 0, 0],
 };
-
-/// A number and its place.
-pub fn record(row: i64, column: i64, number: i64) -> Record
-    ensures row { result.row ≡ row }
-    ensures column { result.column ≡ column }
-    ensures number { result.number ≡ number }
-{
-    Record {
-        row,
-        column,
-        number,
-    }
-}
