@@ -1,4 +1,6 @@
 //! J, the small job that programs run on: two ropes and one row.
+#![tactic(auto)]
+
 use opening::Lists;
 use table::Record;
 
