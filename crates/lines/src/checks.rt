@@ -1,7 +1,9 @@
 //! What is refused before a byte is written.
-ghost use Rattle.std.specs.Prelude.{◌≡◌, ◌≤◌, length, None, OnOk};
-ghost use Rattle.lines.specs.Answers.{room_check, first_far, point_check};
+ghost use Rattle.std.specs.Prelude.{◌≡◌, ◌≤◌, length, Ok, IfOk, OnOk};
+ghost use Rattle.std.specs.Result.{result_and};
+ghost use Rattle.lines.specs.Answers.{room_check, point_check};
 
+use crate::coordinates::Coordinates;
 use crate::page::ROOM;
 use crate::unwritten::Unwritten;
 use terms::{MOST_ROPES, PULL_LIMIT, first_beyond};
@@ -17,10 +19,9 @@ pub(crate) fn check_room(bytes: usize) -> Result<(), Unwritten>
     }
 }
 
-pub(crate) fn check_point(point: &[i64]) -> Result<(), Unwritten>
-    ensures value { result ≡ point_check point.now }
-    ensures few { OnOk result (length point.now ≤ 16) }
-    ensures near { OnOk result (first_far point.now ≡ None) }
+pub(crate) fn check_point(point: &[i64]) -> Result<Coordinates, Unwritten>
+    ensures value { result_and result (Ok tt) ≡ point_check point.now }
+    ensures numbers { IfOk result (λ p. p.numbers.now ≡ point.now) }
 {
     if point.len() > MOST_ROPES {
         return Err(Unwritten::Many {
@@ -29,6 +30,6 @@ pub(crate) fn check_point(point: &[i64]) -> Result<(), Unwritten>
     }
     match first_beyond(PULL_LIMIT, point) {
         Some(place) => Err(Unwritten::Far { place }),
-        None => Ok(()),
+        None => Ok(Coordinates { numbers: point }),
     }
 }

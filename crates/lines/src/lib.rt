@@ -4,6 +4,7 @@
 #![tactic(auto)]
 
 mod checks;
+mod coordinates;
 mod page;
 mod unwritten;
 mod writes;

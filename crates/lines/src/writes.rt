@@ -1,12 +1,13 @@
 //! The text of a sheet and of a refusal.
-ghost use Rattle.std.specs.Prelude.{◌≡◌, ◌+◌, ◌≤◌, [], ◌∷◌, ◌++◌, length, None};
+ghost use Rattle.std.specs.Prelude.{◌≡◌, ◌+◌, ◌≤◌, [], ◌∷◌, ◌++◌, length};
 ghost use Rattle.exchange.specs.Ends.{name_of as exchange_word};
 ghost use Rattle.walk.specs.Ends.{name_of as walk_word};
 ghost use Rattle.lines.specs.Texts.{floor_line, point_lines, found_text, sheet_text, refusal_text};
-ghost use Rattle.lines.specs.Answers.{first_far, room_check, sheet_check, answered, list_after};
+ghost use Rattle.lines.specs.Answers.{room_check, sheet_check, answered, list_after};
 ghost use Rattle.lines.specs.Reading.{Legible};
 
 use crate::checks::{check_point, check_room};
+use crate::coordinates::Coordinates;
 use crate::page::Page;
 use crate::unwritten::Unwritten;
 use calls::{Found, Report, Shown};
@@ -46,26 +47,23 @@ fn add_missing(page: &mut Page, first: &str, floor: i128)
 }
 
 /// Adds the lines of a point.
-fn add_point(page: &mut Page, cost: i64, floor: i128, gap: i128, point: &[i64])
-    requires room { length page.old.text.bytes + 240 ≤ 320 }
-    requires few { length point.now ≤ 16 }
-    requires near { first_far point.now ≡ None }
-    ensures { page.new.text.bytes ≡ page.old.text.bytes ++ point_lines cost floor gap point.now }
+fn add_point(page: &mut Page, cost: i64, floor: i128, gap: i128, point: Coordinates)
+    requires { length page.old.text.bytes + 240 ≤ 320 }
+    ensures { page.new.text.bytes
+        ≡ page.old.text.bytes ++ point_lines cost floor gap point.entry.numbers.now }
 {
     page.entry("cost ", cost);
     page.entry("floor ", floor);
     page.entry("gap ", gap);
     page.word("point");
-    page.numbers(point);
+    page.numbers(point.numbers);
 }
 
 /// Adds what was found.
-fn add_found(page: &mut Page, shown: &Shown, point: &[i64])
-    requires room { length page.old.text.bytes + 240 ≤ 320 }
-    requires few { length point.now ≤ 16 }
-    requires near { first_far point.now ≡ None }
+fn add_found(page: &mut Page, shown: &Shown, point: Coordinates)
+    requires { length page.old.text.bytes + 240 ≤ 320 }
     ensures { page.new.text.bytes
-        ≡ page.old.text.bytes ++ found_text shown.now.floor point.now shown.now.found }
+        ≡ page.old.text.bytes ++ found_text shown.now.floor point.entry.numbers.now shown.now.found }
 {
     match shown.found {
         Found::NoneExists => add_missing(page, "none exists\n", shown.floor),
@@ -74,10 +72,8 @@ fn add_found(page: &mut Page, shown: &Shown, point: &[i64])
     }
 }
 
-fn sheet(report: &Report, shown: &Shown, point: &[i64]) -> Page
-    requires few { length point.now ≤ 16 }
-    requires near { first_far point.now ≡ None }
-    ensures { result.text.bytes ≡ sheet_text report.now shown.now point.now }
+fn sheet(report: &Report, shown: &Shown, point: Coordinates) -> Page
+    ensures { result.text.bytes ≡ sheet_text report.now shown.now point.entry.numbers.now }
 {
     let mut page = Page::new();
     page.labelled("exchange ", report.steps);
@@ -113,7 +109,7 @@ pub fn write_sheet(
     ensures legible { Legible }
 {
     check_room(out.len())?;
-    check_point(point)?;
+    let point = check_point(point)?;
     Ok(sheet(report, shown, point).copy_to(out))
 }
 

@@ -32,16 +32,28 @@ const MOST_STEPS: u64 = 1_000;
 
 const MOST_MOVES: u64 = 1_000_000;
 
-fn check_budgets(steps: u64, moves: u64) -> Result<(), Refusal>
-    ensures { result ≡ unless (solve_refusal steps moves) tt }
-{
-    if steps > MOST_STEPS {
-        return Err(Refusal::OfferLimit { index: 0 });
+/// What a solve may use: steps of the exchange and moves of the walk.
+#[derive(Clone, Copy)]
+struct Budgets {
+    steps: usize,
+    moves: u32,
+}
+
+impl Budgets {
+    fn checked(steps: u64, moves: u64) -> Result<Budgets, Refusal>
+        ensures { result ≡ unless (solve_refusal steps moves) (record { steps = steps; moves = moves }) }
+    {
+        if steps > MOST_STEPS {
+            return Err(Refusal::OfferLimit { index: 0 });
+        }
+        if moves > MOST_MOVES {
+            return Err(Refusal::OfferLimit { index: 1 });
+        }
+        Ok(Budgets {
+            steps: steps as usize,
+            moves: moves as u32,
+        })
     }
-    if moves > MOST_MOVES {
-        return Err(Refusal::OfferLimit { index: 1 });
-    }
-    Ok(())
 }
 
 /// Walks on a job that the room was made for.
@@ -143,12 +155,12 @@ impl<G: Table, A: Table> Plan<G, A> {
     }
 
     /// The exchange, then the walk, then its end.
-    fn propose(&mut self, proposer: Proposer, steps: usize, moves: u32) -> Report
+    fn propose(&mut self, proposer: Proposer, budgets: Budgets) -> Report
         requires { Ready (view G.Table.meant A.Table.meant self.old) proposer }
-        ensures report { result ≡ report (view G.Table.meant A.Table.meant self.old) steps moves }
+        ensures report { result ≡ report (view G.Table.meant A.Table.meant self.old) budgets.steps budgets.moves }
         ensures after { view G.Table.meant A.Table.meant self.new
-            ≡ took_all (view G.Table.meant A.Table.meant self.old) (solve_offers (view G.Table.meant A.Table.meant self.old) steps moves) }
-        ensures law { LawfulSolve (view G.Table.meant A.Table.meant self.old) steps moves result }
+            ≡ took_all (view G.Table.meant A.Table.meant self.old) (solve_offers (view G.Table.meant A.Table.meant self.old) budgets.steps budgets.moves) }
+        ensures law { LawfulSolve (view G.Table.meant A.Table.meant self.old) budgets.steps budgets.moves result }
     {
         let Proposer {
             job,
@@ -157,9 +169,9 @@ impl<G: Table, A: Table> Plan<G, A> {
             mut at,
         } = proposer;
         let at = at.as_mut_slice();
-        let exchanged = self.run_exchange(&job, &mut exchange, at, steps);
+        let exchanged = self.run_exchange(&job, &mut exchange, at, budgets.steps);
         self.start_from(at);
-        let walked = walk_from(&job, &mut room, at, moves);
+        let walked = walk_from(&job, &mut room, at, budgets.moves);
         self.offer_end(&job, at);
         Report {
             steps: exchanged.steps,
@@ -179,8 +191,8 @@ impl<G: Table, A: Table> Plan<G, A> {
         ensures value { Solves (view G.Table.meant A.Table.meant self.old) steps moves result (view G.Table.meant A.Table.meant self.new) }
         ensures law { IfOk result (LawfulSolve (view G.Table.meant A.Table.meant self.old) steps moves) }
     {
-        check_budgets(steps, moves)?;
+        let budgets = Budgets::checked(steps, moves)?;
         let proposer = self.proposer(heap)?;
-        Ok(self.propose(proposer, steps as usize, moves as u32))
+        Ok(self.propose(proposer, budgets))
     }
 }

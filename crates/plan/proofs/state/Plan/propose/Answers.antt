@@ -31,7 +31,7 @@ start_from-requires g c =
     let P = problem_of c.args.proposer.job in
     let z₁ = c.run_exchange-exchanged.new.at in
     let h = c.run_exchange-exchanged.ensures in
-    let w : written s₁ ≡ P = ap written h.after ∙ written_same _ s (offers_same s (found_offers s.numbers (exchanged P c.args.steps).offers)) ∙ sym c.requires.same in
+    let w : written s₁ ≡ P = ap written h.after ∙ written_same _ s (offers_same s (found_offers s.numbers (exchanged P c.args.budgets.steps).offers)) ∙ sym c.requires.same in
     ap (λ (Q : Problem). is_in_bounds Q z₁) w ∙ h.inside
 
 pub walk_from-walked-requires-clause-inside : goal.walk_from-walked-requires-clause-inside
@@ -41,7 +41,7 @@ walk_from-walked-requires-clause-inside g c =
     let P = problem_of c.args.proposer.job in
     let z₂ = c.start_from.new.at in
     let h = c.run_exchange-exchanged.ensures in
-    let w : written s₁ ≡ P = ap written h.after ∙ written_same _ s (offers_same s (found_offers s.numbers (exchanged P c.args.steps).offers)) ∙ sym c.requires.same in
+    let w : written s₁ ≡ P = ap written h.after ∙ written_same _ s (offers_same s (found_offers s.numbers (exchanged P c.args.budgets.steps).offers)) ∙ sym c.requires.same in
     sym (ap (λ (Q : Problem). is_in_bounds Q z₂) w) ∙ c.start_from.ensures.inside
 
 pub offer_end-requires : goal.offer_end-requires
@@ -55,8 +55,8 @@ returns g c =
     let s : State = view g.G.Table.meant g.A.Table.meant c.args.self.now in
     let s₁ : State = view g.G.Table.meant g.A.Table.meant c.run_exchange-exchanged.new.self in
     let s₂ : State = view g.G.Table.meant g.A.Table.meant c.offer_end.new.self in
-    let b = c.args.steps in
-    let m = c.args.moves in
+    let b = c.args.budgets.steps in
+    let m = c.args.budgets.moves in
     let z₀ = c.as_mut_slice-at.result.now in
     let z₁ = c.run_exchange-exchanged.new.at in
     let z₂ = c.start_from.new.at in
