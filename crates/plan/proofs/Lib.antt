@@ -1,6 +1,8 @@
+mod Bettering
 pub mod Refused
 pub mod Opened
 pub mod Insides
 pub mod Amended
 pub mod Solving
 pub mod Proposing
+pub mod Offering

@@ -1,5 +1,6 @@
 //! What is computed of points and multipliers that are known to fit: there is always an answer.
 ghost use Rattle.std.specs.Prelude.{◌≡◌, ◌^◌, ◌≤◌, true, length, pos, ◌-ℤ◌, ◌*ℤ◌, vec_len, unsigned_abs};
+ghost use Rattle.std.specs.Option.{option_map};
 ghost use Rattle.duality.specs.Lists.{places};
 ghost use Rattle.duality.specs.Problem.{cost as cost_of};
 ghost use Rattle.duality.specs.Tests.{many_within};
@@ -34,6 +35,16 @@ impl<G: Table, A: Table> Plan<G, A> {
         ensures small { unsigned_abs result ≤ 2 ^ 122 }
     {
         floor(&self.g, &self.a, &self.terms, pair).unwrap()
+    }
+
+    /// The cost of the point that is held, if one is.
+    pub(crate) fn held_cost(&self) -> Option<i64>
+        ensures { result ≡ option_map (λ z. cost_of (problem (view G.Table.meant A.Table.meant self.now)) (places z)) (view G.Table.meant A.Table.meant self.now).point }
+    {
+        match &self.point {
+            Some(z) => Some(self.cost_of(z)),
+            None => None,
+        }
     }
 
     /// The floor of the pair that is held.

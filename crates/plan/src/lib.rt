@@ -4,7 +4,10 @@
 #![tactic(auto)]
 
 mod amends;
+mod bests;
 mod evaluates;
+mod founds;
+mod judges;
 mod offers;
 mod opens;
 mod proposers;

@@ -6,11 +6,12 @@ ghost use Rattle.calls.specs.Lawful.{LawfulPoint, LawfulPair, LawfulProof};
 ghost use Rattle.plan.specs.View.{pair_of, view};
 
 use crate::evaluates::copied;
+use crate::judges::Judge;
 use crate::state::{HeldPair, Plan};
 use calls::Verdict;
 use evaluate::Pair;
 use opening::Refusal;
-use reasons::{check_pair, check_point, check_proof};
+use reasons::check_proof;
 use table::Table;
 
 fn verdict(better: bool) -> Verdict
@@ -27,12 +28,13 @@ impl<G: Table, A: Table> Plan<G, A> {
     fn judge_point(&self, z: &[i64]) -> Result<Verdict, Refusal>
         ensures { result ≡ point_answer (view G.Table.meant A.Table.meant self.now) z.now }
     {
-        check_point(&self.a, &self.terms, z)?;
-        let better = match &self.point {
-            Some(held) => self.cost_of(z) < self.cost_of(held),
-            None => true,
+        let judge = Judge {
+            g: &self.g,
+            a: &self.a,
+            terms: &self.terms,
         };
-        Ok(verdict(better))
+        let better = judge.better_cost(self.held_cost(), z)?;
+        Ok(verdict(better.is_some()))
     }
 
     /// Offers a point. It is taken if none is held or its cost is lower; else what is held is kept.
@@ -54,8 +56,13 @@ impl<G: Table, A: Table> Plan<G, A> {
     fn judge_pair(&self, pair: Pair) -> Result<Verdict, Refusal>
         ensures { result ≡ pair_answer (view G.Table.meant A.Table.meant self.now) (pair_of pair.entry) }
     {
-        check_pair(&self.terms, pair)?;
-        Ok(verdict(self.held_floor() < self.floor_of(pair)))
+        let judge = Judge {
+            g: &self.g,
+            a: &self.a,
+            terms: &self.terms,
+        };
+        let better = judge.better_floor(self.held_floor(), pair)?;
+        Ok(verdict(better.is_some()))
     }
 
     /// Offers a pair: a point, which may break rows and bounds, and a multiplier in 256ths for each row. It is taken if its floor is higher.

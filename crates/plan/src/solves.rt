@@ -19,8 +19,7 @@ ghost use Rattle.plan.specs.View.{view};
 use crate::proposers::Proposer;
 use crate::state::Plan;
 use calls::Report;
-use evaluate::Pair;
-use exchange::{End, Exchange, Report as Exchanged, Step, end_after};
+use exchange::{End, Exchange, Report as Exchanged, end_after};
 use job::Job;
 use opening::Refusal;
 use reading::read_job;
@@ -67,25 +66,6 @@ fn walk_from(job: &Job, room: &mut Room, at: &mut [i64], budget: u32) -> Walked
 }
 
 impl<G: Table, A: Table> Plan<G, A> {
-    /// Offers what a step found, first its point, then the pair, and leaves the point in the list.
-    fn offer_step(&mut self, step: Step, at: &mut [i64])
-        requires { length at.old ≡ (view G.Table.meant A.Table.meant self.old).numbers.ropes }
-        ensures after { view G.Table.meant A.Table.meant self.new
-            ≡ took_all (view G.Table.meant A.Table.meant self.old) (found_offers (view G.Table.meant A.Table.meant self.old).numbers (offers_of step)) }
-        ensures last { at.new ≡ last_found (view G.Table.meant A.Table.meant self.old).numbers at.old (offers_of step) }
-    {
-        if let Step::Found(offer, _) = step {
-            let ropes = self.terms.c.len();
-            let rows = self.terms.lo.len();
-            at.copy_from_slice(&offer.point[..ropes]);
-            let _ = self.point(at);
-            let _ = self.floor(Pair {
-                point: at,
-                multipliers: &offer.multipliers[..rows],
-            });
-        }
-    }
-
     /// Runs the exchange and offers what each step finds; the last point found stands in the list then.
     fn run_exchange(
         &mut self,
@@ -95,7 +75,7 @@ impl<G: Table, A: Table> Plan<G, A> {
         budget: usize,
     ) -> Exchanged
         requires fresh { Fresh job.now exchange.old }
-        requires sized { job.now.ropes ≡ (view G.Table.meant A.Table.meant self.old).numbers.ropes }
+        requires same { problem_of job.now ≡ written (view G.Table.meant A.Table.meant self.old) }
         requires inside { is_in_bounds (problem_of job.now) at.old ≡ true }
         ensures report { Reports (exchanged (problem_of job.now) budget) result }
         ensures after { view G.Table.meant A.Table.meant self.new
@@ -105,10 +85,11 @@ impl<G: Table, A: Table> Plan<G, A> {
             ≡ last_found (view G.Table.meant A.Table.meant self.old).numbers at.old (exchanged (problem_of job.now) budget).offers }
         ensures inside { is_in_bounds (problem_of job.now) at.new ≡ true }
     {
+        let mut bests = self.bests();
         // exchange::run has this loop too: with a closure it would have to require that it may be called, and no public function requires anything.
         for k in 0..budget {
             let step = exchange.step(job);
-            self.offer_step(step, at);
+            self.offer_step(job, &mut bests, step, at);
             if let Some(end) = end_after(step) {
                 return exchange.report(k + 1, end);
             }

@@ -1,12 +1,13 @@
--- Problems that agree have the same feasible points, at the same cost.
-use Rattle.std.proofs.Common.{◌≡◌, ℕ, ◌<◌, ℤ, ◌*ℤ◌, sym, ap, ◌∙◌, arith}
-use Rattle.duality.specs.Problem.{Problem, Feasible, cost, row_at}
-use Rattle.duality.specs.Sums.{Vector, ∑, dot, quad}
+-- Problems that agree have the same feasible points, at the same cost, and the same floors.
+use Rattle.std.proofs.Common.{◌≡◌, ℕ, ◌<◌, ℤ, pos, ◌*ℤ◌, ◌+ℤ◌, ◌-ℤ◌, sym, ap, ◌∙◌, arith}
+use Rattle.duality.specs.Floor.{furthest, residual, slack, floor}
+use Rattle.duality.specs.Problem.{Problem, Feasible, cost, row_at, slope}
+use Rattle.duality.specs.Sums.{Vector, ∑, dot, row, quad, column}
 use Rattle.duality.proofs.Sums.{∑-cong}
 use Rattle.reading.specs.Plain.{Agrees, SamePoints}
 
 module _ (P Q : Problem) (h : Agrees P Q) where
-  same_row : (z : Vector) (i : ℕ) → i < Q.rows → row_at P z i ≡ row_at Q z i
+  pub same_row : (z : Vector) (i : ℕ) → i < Q.rows → row_at P z i ≡ row_at Q z i
   same_row z i l =
       ap (λ (n : ℕ). ∑ n (λ j. P.A i j *ℤ z j)) h.same_ropes
       ∙ ∑-cong Q.ropes (λ j. P.A i j *ℤ z j) (λ j. Q.A i j *ℤ z j) (λ j m. ap (λ (w : ℤ). w *ℤ z j) (h.same_a i j l m))
@@ -22,7 +23,7 @@ module _ (P Q : Problem) (h : Agrees P Q) where
       ap (λ (n : ℕ). dot n P.c z) h.same_ropes
       ∙ ∑-cong Q.ropes (λ j. P.c j *ℤ z j) (λ j. Q.c j *ℤ z j) (λ j m. ap (λ (w : ℤ). w *ℤ z j) (h.same_c j m))
 
-  same_cost : (z : Vector) → cost P z ≡ cost Q z
+  pub same_cost : (z : Vector) → cost P z ≡ cost Q z
   unfolding cost
   same_cost z = rw (same_quad z, same_prices z)
 
@@ -46,3 +47,36 @@ module _ (P Q : Problem) (h : Agrees P Q) where
 
   pub same_points : SamePoints P Q
   same_points z = (same_cost z, feasible_there z, feasible_here z)
+
+  same_slope : (p : Vector) (j : ℕ) → j < Q.ropes → slope P p j ≡ slope Q p j
+  same_slope p j l =
+      ap (λ (n : ℕ). row n P.G p j +ℤ P.c j) h.same_ropes
+      ∙ ap (λ (s : ℤ). s +ℤ P.c j) (∑-cong Q.ropes (λ k. P.G j k *ℤ p k) (λ k. Q.G j k *ℤ p k) (λ k m. ap (λ (w : ℤ). w *ℤ p k) (h.same_g j k l m)))
+      ∙ ap (λ (w : ℤ). row Q.ropes Q.G p j +ℤ w) (h.same_c j l)
+
+  same_column : (y : Vector) (j : ℕ) → j < Q.ropes → column P.rows P.A y j ≡ column Q.rows Q.A y j
+  same_column y j l =
+      ap (λ (m : ℕ). column m P.A y j) h.same_rows
+      ∙ ∑-cong Q.rows (λ i. y i *ℤ P.A i j) (λ i. y i *ℤ Q.A i j) (λ i m. ap (λ (w : ℤ). y i *ℤ w) (h.same_a i j m l))
+
+  same_residual : (p y : Vector) (j : ℕ) → j < Q.ropes → residual P p y j ≡ residual Q p y j
+  unfolding residual
+  same_residual p y j l =
+      ap (λ (s : ℤ). pos 256 *ℤ s -ℤ column P.rows P.A y j) (same_slope p j l) ∙ ap (λ (w : ℤ). pos 256 *ℤ slope Q p j -ℤ w) (same_column y j l)
+
+  same_row_slack : (p y : Vector) (i : ℕ) → i < Q.rows → furthest (y i) (row_at P p i) (P.lo i) (P.hi i) ≡ furthest (y i) (row_at Q p i) (Q.lo i) (Q.hi i)
+  same_row_slack p y i l = rw (same_row p i l, h.same_lo i l, h.same_hi i l)
+
+  same_rope_slack : (p y : Vector) (j : ℕ) → j < Q.ropes → furthest (residual P p y j) (p j) (P.l j) (P.u j) ≡ furthest (residual Q p y j) (p j) (Q.l j) (Q.u j)
+  same_rope_slack p y j l = rw (same_residual p y j l, h.same_l j l, h.same_u j l)
+
+  same_slack : (p y : Vector) → slack P p y ≡ slack Q p y
+  unfolding slack
+  same_slack p y =
+      ap (λ (m : ℕ). ∑ m (λ i. furthest (y i) (row_at P p i) (P.lo i) (P.hi i)) +ℤ ∑ P.ropes (λ j. furthest (residual P p y j) (p j) (P.l j) (P.u j))) h.same_rows
+      ∙ ap (λ (n : ℕ). ∑ Q.rows (λ i. furthest (y i) (row_at P p i) (P.lo i) (P.hi i)) +ℤ ∑ n (λ j. furthest (residual P p y j) (p j) (P.l j) (P.u j))) h.same_ropes
+      ∙ ap (λ (s : ℤ). s +ℤ ∑ Q.ropes (λ j. furthest (residual P p y j) (p j) (P.l j) (P.u j))) (∑-cong Q.rows _ _ (same_row_slack p y))
+      ∙ ap (λ (s : ℤ). ∑ Q.rows (λ i. furthest (y i) (row_at Q p i) (Q.lo i) (Q.hi i)) +ℤ s) (∑-cong Q.ropes _ _ (same_rope_slack p y))
+
+  pub same_floor : (p y : Vector) → floor P p y ≡ floor Q p y
+  same_floor p y = rw (same_cost p, same_slack p y)

@@ -1,3 +1,4 @@
 pub mod Listed
 pub mod Stated
 pub mod Agreeing
+pub mod Listings

@@ -1,0 +1,118 @@
+//! Offers of the exchange, judged over the numbers that were read for it.
+ghost use Rattle.std.specs.Prelude.{◌≡◌, length};
+ghost use Rattle.duality.specs.Lists.{places};
+ghost use Rattle.duality.specs.Problem.{cost as cost_of};
+ghost use Rattle.job.specs.Numbers.{problem_of};
+ghost use Rattle.exchange.specs.Runs.{offers_of};
+ghost use Rattle.calls.specs.States.{problem, floor_of};
+ghost use Rattle.calls.specs.Refusing.{point_refusal, pair_refusal};
+ghost use Rattle.calls.specs.Steps.{unless};
+ghost use Rattle.calls.specs.Offers.{point as a_point, pair as a_pair, took, took_all};
+ghost use Rattle.calls.specs.Solving.{written, found_offers, last_found};
+ghost use Rattle.plan.specs.Bettering.{below, above};
+ghost use Rattle.plan.specs.Standing.{Stands};
+ghost use Rattle.plan.specs.View.{pair_of, view};
+
+use crate::bests::Bests;
+use crate::evaluates::copied;
+use crate::judges::Judge;
+use crate::state::{HeldPair, Plan};
+use evaluate::Pair;
+use exchange::Step;
+use job::Job;
+use opening::Refusal;
+use reading::{curvature, rows};
+use table::Table;
+
+impl<G: Table, A: Table> Plan<G, A> {
+    /// What stands to be bettered.
+    pub(crate) fn bests(&self) -> Bests
+        ensures { Stands (view G.Table.meant A.Table.meant self.now) result }
+    {
+        Bests {
+            cost: self.held_cost(),
+            floor: self.held_floor(),
+        }
+    }
+
+    /// The cost of a point, if it is below that of the held one.
+    fn better_cost(&self, job: &Job, held: Option<i64>, z: &[i64]) -> Result<Option<i64>, Refusal>
+        requires { problem_of job.now ≡ written (view G.Table.meant A.Table.meant self.now) }
+        ensures { result ≡ unless (point_refusal (problem (view G.Table.meant A.Table.meant self.now)) z.now)
+            (below held (cost_of (problem (view G.Table.meant A.Table.meant self.now)) (places z.now))) }
+    {
+        let judge = Judge {
+            g: &curvature(job),
+            a: &rows(job),
+            terms: &self.terms,
+        };
+        judge.better_cost(held, z)
+    }
+
+    /// The floor of a pair, if it is above that of the held one.
+    fn better_floor(&self, job: &Job, held: i128, pair: Pair) -> Result<Option<i128>, Refusal>
+        requires { problem_of job.now ≡ written (view G.Table.meant A.Table.meant self.now) }
+        ensures { result ≡ unless (pair_refusal (problem (view G.Table.meant A.Table.meant self.now)) (pair_of pair.entry))
+            (above held (floor_of (problem (view G.Table.meant A.Table.meant self.now)) (pair_of pair.entry))) }
+    {
+        let judge = Judge {
+            g: &curvature(job),
+            a: &rows(job),
+            terms: &self.terms,
+        };
+        judge.better_floor(held, pair)
+    }
+
+    /// Offers a point.
+    fn offer_point(&mut self, job: &Job, bests: &mut Bests, z: &[i64])
+        requires same { problem_of job.now ≡ written (view G.Table.meant A.Table.meant self.old) }
+        requires stands { Stands (view G.Table.meant A.Table.meant self.old) bests.old }
+        ensures after { view G.Table.meant A.Table.meant self.new ≡ took (view G.Table.meant A.Table.meant self.old) (a_point z.now) }
+        ensures stands { Stands (view G.Table.meant A.Table.meant self.new) bests.new }
+    {
+        if let Ok(Some(cost)) = self.better_cost(job, bests.cost, z) {
+            self.point = Some(copied(z));
+            bests.cost = Some(cost);
+        }
+    }
+
+    /// Offers a pair.
+    fn offer_pair(&mut self, job: &Job, bests: &mut Bests, pair: Pair)
+        requires same { problem_of job.now ≡ written (view G.Table.meant A.Table.meant self.old) }
+        requires stands { Stands (view G.Table.meant A.Table.meant self.old) bests.old }
+        ensures after { view G.Table.meant A.Table.meant self.new ≡ took (view G.Table.meant A.Table.meant self.old) (a_pair (pair_of pair.entry)) }
+        ensures stands { Stands (view G.Table.meant A.Table.meant self.new) bests.new }
+    {
+        if let Ok(Some(floor)) = self.better_floor(job, bests.floor, pair) {
+            self.pair = HeldPair {
+                point: copied(pair.point),
+                multipliers: copied(pair.multipliers),
+            };
+            bests.floor = floor;
+        }
+    }
+
+    /// Offers what a step found, first its point, then the pair, and leaves the point in the list.
+    pub(crate) fn offer_step(&mut self, job: &Job, bests: &mut Bests, step: Step, at: &mut [i64])
+        requires same { problem_of job.now ≡ written (view G.Table.meant A.Table.meant self.old) }
+        requires stands { Stands (view G.Table.meant A.Table.meant self.old) bests.old }
+        requires long { length at.old ≡ job.now.ropes }
+        ensures after { view G.Table.meant A.Table.meant self.new
+            ≡ took_all (view G.Table.meant A.Table.meant self.old) (found_offers (view G.Table.meant A.Table.meant self.old).numbers (offers_of step)) }
+        ensures stands { Stands (view G.Table.meant A.Table.meant self.new) bests.new }
+        ensures last { at.new ≡ last_found (view G.Table.meant A.Table.meant self.old).numbers at.old (offers_of step) }
+    {
+        if let Step::Found(offer, _) = step {
+            at.copy_from_slice(&offer.point[..job.ropes]);
+            self.offer_point(job, bests, at);
+            self.offer_pair(
+                job,
+                bests,
+                Pair {
+                    point: at,
+                    multipliers: &offer.multipliers[..job.rows],
+                },
+            );
+        }
+    }
+}
