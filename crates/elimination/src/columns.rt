@@ -4,7 +4,7 @@ ghost use Rattle.std.specs.Option.{option_map};
 ghost use Rattle.elimination.specs.Lines.{seen, less, cleared, cleared_below, column_done, columns_done};
 ghost use Rattle.elimination.specs.Squares.{lines_of};
 
-use crate::squares::System;
+use crate::squares::{LINE_PLACES, System};
 
 impl System {
     /// Brings the lines to the upper triangle, or answers nothing at a column that has no pivot; either way the smallest size of a pivot is noted.
@@ -39,7 +39,7 @@ impl System {
 }
 
 // No method, because a part of a field cannot be lent from behind `&mut self` where the struct has a ghost field.
-fn clear_below(lines: &mut [[f64; 33]], size: usize, k: usize)
+fn clear_below(lines: &mut [[f64; LINE_PLACES]], size: usize, k: usize)
     requires line { k < size }
     requires size { size ≤ length lines.old }
     requires few { size ≤ 32 }
@@ -50,7 +50,7 @@ fn clear_below(lines: &mut [[f64; 33]], size: usize, k: usize)
 }
 
 /// Clears column k of each line, as far as the pivot's line goes.
-fn clear_lines(lines: &mut [[f64; 33]], k: usize, pivot_line: &[f64])
+fn clear_lines(lines: &mut [[f64; LINE_PLACES]], k: usize, pivot_line: &[f64])
     requires column { k < length pivot_line.now }
     requires width { length pivot_line.now ≤ 33 }
     ensures { seen (length pivot_line.now) lines.new

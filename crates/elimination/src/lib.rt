@@ -13,4 +13,5 @@ mod unknowns;
 
 pub use pivots::LARGEST;
 pub use rounding::nearest;
+pub use squares::{LINE_PLACES, MOST_UNKNOWNS};
 pub use systems::{Solution, solve};

@@ -4,18 +4,18 @@ ghost use Rattle.std.specs.Option.{option_map};
 ghost use Rattle.elimination.specs.Lines.{solved, solved_in, padded, Solves};
 ghost use Rattle.elimination.specs.Squares.{lines_of};
 
-use crate::squares::System;
+use crate::squares::{LINE_PLACES, MOST_UNKNOWNS, System};
 
 /// The unknowns, filled up with 0 to 32 places, or nothing where the system is stuck; and the smallest size of a pivot that was taken.
 #[derive(Clone, Copy)]
 pub struct Solution {
-    pub unknowns: Option<[f64; 32]>,
+    pub unknowns: Option<[f64; MOST_UNKNOWNS]>,
     pub smallest: f64,
 }
 
 impl System {
     /// The unknowns, filled up with 0; the smallest size of a pivot is noted.
-    fn solve(mut self, smallest: &mut f64) -> Option<[f64; 32]>
+    fn solve(mut self, smallest: &mut f64) -> Option<[f64; MOST_UNKNOWNS]>
         ensures smallest { smallest.new ≡ (solved smallest.old (lines_of self)).0 }
         ensures unknowns { result ≡ option_map padded (solved smallest.old (lines_of self)).1 }
     {
@@ -28,13 +28,13 @@ impl System {
 ///
 /// It is stuck where a column has no pivot strictly between 2^-20 and 2^60, or an unknown does not lie strictly within ±1,073,741,824.
 /// A system of more than 32 unknowns is stuck before its first pivot. `smallest` is the smallest size so far.
-pub fn solve(lines: [[f64; 33]; 32], n: usize, mut smallest: f64) -> Solution
+pub fn solve(lines: [[f64; LINE_PLACES]; MOST_UNKNOWNS], n: usize, mut smallest: f64) -> Solution
     ensures smallest { result.smallest ≡ (solved_in n smallest lines).0 }
     ensures unknowns { result.unknowns ≡ option_map padded (solved_in n smallest lines).1 }
     ensures law { Solves n (solved_in n smallest lines).1 }
 {
     // A square with a number of lines and no `Vec`, because a step of the exchange takes no memory.
-    let unknowns = if n > 32 {
+    let unknowns = if n > MOST_UNKNOWNS {
         None
     } else {
         System { lines, size: n }.solve(&mut smallest)

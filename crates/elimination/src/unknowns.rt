@@ -4,7 +4,7 @@ ghost use Rattle.std.specs.Option.{option_map};
 ghost use Rattle.elimination.specs.Lines.{rest, inside, unknown_of, unknowns_of, padded};
 ghost use Rattle.elimination.specs.Squares.{lines_of};
 
-use crate::squares::System;
+use crate::squares::{MOST_UNKNOWNS, System};
 
 /// An unknown lies strictly within 2^30 either way.
 const BOUND: f64 = 1073741824.0;
@@ -20,10 +20,10 @@ impl System {
     }
 
     /// The unknowns, filled up with 0, where each lies inside: they are found from the last up.
-    pub(crate) fn back_substitute(&self) -> Option<[f64; 32]>
+    pub(crate) fn back_substitute(&self) -> Option<[f64; MOST_UNKNOWNS]>
         ensures { result ≡ option_map padded (unknowns_of self.now.size 0 (lines_of self.now)) }
     {
-        let mut unknowns = [0.0; 32];
+        let mut unknowns = [0.0; MOST_UNKNOWNS];
         for k in (0..self.size).rev() {
             let x = unknown(self.line(k), k, &unknowns[k + 1..self.size]);
             if !is_inside(x) {

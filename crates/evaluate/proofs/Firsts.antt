@@ -45,6 +45,9 @@ found_broken b p i n t e f l = ap finding (sym (first_at p i n e f l)) ∙ sym (
 pub found_kept : (b : Bool) (p : ℕ → Bool) (n : ℕ) → b ≡ true → first_not p n ≡ None → Ok tt ≡ found b p n
 found_kept b p n t e = ap finding (sym e) ∙ sym (cond-true b _ (Err NoPoint) t)
 
+pub found_is : (b : Bool) (p : ℕ → Bool) (n : ℕ) (o : Option ℕ) → b ≡ true → o ≡ first_not p n → finding o ≡ found b p n
+found_is b p n o t e = ap finding e ∙ sym (cond-true b _ (Err NoPoint) t)
+
 pub found_no_point : (b : Bool) (p : ℕ → Bool) (n : ℕ) → b ≡ false → Err NoPoint ≡ found b p n
 found_no_point b p n t = sym (cond-false b (finding (first_not p n)) (Err NoPoint) t)
 

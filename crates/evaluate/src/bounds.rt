@@ -5,7 +5,7 @@ ghost use Rattle.table.specs.Grid.{Grid};
 ghost use Rattle.evaluate.specs.Stated.{problem_of};
 ghost use Rattle.evaluate.specs.Findings.{found, keeps_bound, BoundKept, Finds};
 
-use terms::{Terms, Unmet, between};
+use terms::{Terms, Unmet, first_outside};
 
 /// Whether each number in z lies within its rope's bounds, whatever the tables are: otherwise the first rope whose number doesn't,
 /// or that z hasn't a number for each rope.
@@ -17,10 +17,8 @@ pub fn check_bounds(terms: &Terms, z: &[i64]) -> Result<(), Unmet>
     if z.len() != terms.c.len() {
         return Err(Unmet::NoPoint);
     }
-    for (j, x) in z.iter().enumerate() {
-        if !between(terms.l[j], terms.u[j], *x) {
-            return Err(Unmet::At(j));
-        }
+    match first_outside(&terms.l, &terms.u, z) {
+        Some(j) => Err(Unmet::At(j)),
+        None => Ok(()),
     }
-    Ok(())
 }

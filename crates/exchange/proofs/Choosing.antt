@@ -1,11 +1,10 @@
 -- The definitions of breaches and choices, case by case.
-use Rattle.std.proofs.Common.{◌≡◌, ℕ, ◌+◌, ◌^◌, ◌<◌, ◌≤◌, Bool, true, false, ltb, List, ◌∷◌, length, drop, ℤ, pos, nat_abs, vec_items, sym, refl, ap, ◌∙◌, le_refl, le-ltb, lt-ltb}
+use Rattle.std.proofs.Common.{◌≡◌, ℕ, ◌+◌, ◌^◌, ◌<◌, ◌≤◌, true, false, ltb, List, ◌∷◌, length, drop, ℤ, pos, nat_abs, vec_items, sym, refl, ap, ◌∙◌, le_refl, le-ltb, lt-ltb}
 use lib.Signed.{lt_z}
-use Rattle.std.specs.Option.{unwrap_or}
 use Rattle.duality.specs.Lists.{places}
 use Rattle.duality.specs.Problem.{Problem, row_at}
 use Rattle.job.specs.Numbers.{problem_of}
-use Rattle.duality.specs.Tests.{many_within, answer}
+use Rattle.duality.specs.Tests.{many_within}
 use Rattle.terms.specs.Ticks.{excess}
 use Rattle.job.specs.declared.numbers.Job.{Job}
 use Rattle.job.proofs.Reading.{reads_row, row_is}
@@ -27,9 +26,6 @@ row_small j z i p l =
     let r = reads_row j z 1073741824 (le_refl 1073741824) p i (vec_items j.a) l refl in
     let e = row_is j z 1073741824 (le_refl 1073741824) p i (vec_items j.a) refl in
     rw (← e) (dot_small (vec_items j.a) i j.rows z r)
-
-pub answer_or : (b : Bool) (v : ℤ) → b ≡ true → unwrap_or (answer b v) (pos 0) ≡ v
-answer_or b v e = rw e
 
 pub breach_is : (P : Problem) (z : List ℤ) (v : Limit) (t : ℤ) (sd : Side) → t ≡ excess (low P v) (high P v) (value_at P z v) → sd ≡ side_of (low P v) (value_at P z v) →
     ◌≡◌ {A = Breach} (record { ticks = t; member = record { limit = v; side = sd } }) (breach P z v)

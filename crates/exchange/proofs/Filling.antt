@@ -4,7 +4,7 @@ use native.Mathlib.Nat.{sub-zero}
 use lib.Ieee.{Float, nan}
 use borrow.Rule.Slice.PartMut.{post_of}
 use Rattle.exchange.specs.Offers.{filled}
-use Rattle.std.proofs.lemmas.List.{length-take-le, drop-replicate, length-replicate, take_at, drop_at, take_more, take_more_set, map-append, drop-set-lt, drop-drop, length-set, length-map, take-append-drop, take_all, drop-map, take-map}
+use Rattle.std.proofs.lemmas.List.{length-take-le, drop-replicate, length-replicate, take_at, drop_at, take_more, take_more_set, map-append, drop-set-lt, drop-drop, length-set, length-map, take-append-drop, take_all}
 use Rattle.exchange.specs.Rounding.{pulled, pressed, scaled, in_parts}
 use Rattle.elimination.specs.Nearest.{nearest}
 
@@ -54,9 +54,6 @@ module _ (n k : ℕ) (xs : List ℤ) (us : List Float) where
       sym (take-append-drop k xs) ∙ rw (a, b) (ap (λ z. map nearest z ++ replicate (n - k) (pos 0)) (take_all k us (omega arith)) ∙ ap (λ (i : ℕ). map nearest us ++ replicate i (pos 0)) m)
 
 -- unknowns that are brought to 256ths and then rounded
-pub pressed_parts : (n m : ℕ) (us : List Float) → pulled (take m (drop n (map in_parts us))) ≡ pressed (take m (drop n us))
-pressed_parts n m us = ap (λ z. pulled (take m z)) (drop-map in_parts n us) ∙ ap pulled (take-map in_parts m (drop n us)) ∙ twice (take m (drop n us))
-  where
-    twice : (xs : List Float) → pulled (map in_parts xs) ≡ pressed xs
-    twice [] = refl
-    twice (x ∷ xs) = ap (λ z. scaled x ∷ z) (twice xs)
+pub pressed_parts : (us : List Float) → pulled (map in_parts us) ≡ pressed us
+pressed_parts [] = refl
+pressed_parts (u ∷ us) = ap (λ z. scaled u ∷ z) (pressed_parts us)

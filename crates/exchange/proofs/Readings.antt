@@ -1,8 +1,8 @@
 -- The rounded unknowns, as the choice and the offer take them.
-use Rattle.std.proofs.Common.{◌≡◌, ℕ, ◌+◌, ◌-◌, ◌<◌, ◌≤◌, true, eqb, List, ◌++◌, length, take, drop, replicate, ℤ, pos, nat_abs, sym, ap, ◌∙◌, arith, eq-eqb, le-leb}
+use Rattle.std.proofs.Common.{◌≡◌, ℕ, ◌+◌, ◌-◌, ◌<◌, true, eqb, List, ◌++◌, map, length, take, drop, replicate, ℤ, pos, nat_abs, sym, ap, ◌∙◌, arith, eq-eqb, le-leb}
 use native.Mathlib.Nat.{sub-zero}
 use lib.Ieee.{Float, nan}
-use Rattle.std.proofs.lemmas.List.{length-map, length-take-le, length-drop, get_or-map, get_or-take, take-take, drop-take}
+use Rattle.std.proofs.lemmas.List.{length-map, length-take-le, length-drop, get_or-map, get_or-take}
 use Rattle.std.proofs.lemmas.Bool.{and_from}
 use Rattle.duality.specs.Lists.{places}
 use Rattle.duality.specs.Problem.{Problem}
@@ -12,28 +12,28 @@ use Rattle.duality.proofs.Tests.{all_from}
 use Rattle.elimination.specs.Lines.{at, inside}
 use Rattle.elimination.specs.Nearest.{nearest}
 use Rattle.elimination.proofs.Inside.{nearest_within}
-use Rattle.exchange.specs.Rounding.{pulled, pressed, scaled}
+use Rattle.exchange.specs.Rounding.{pulled, pressed, scaled, in_parts}
 use Rattle.exchange.specs.Offers.{filled, inside_bounds, multipliers, offered, pulls_of, pressures_of}
 use Rattle.exchange.specs.declared.members.Member.{Member}
 use Rattle.exchange.specs.declared.members.Offer.{Offer}
-use Rattle.exchange.proofs.Filling.{take_filled_up, drop_filled_up}
+use Rattle.exchange.proofs.Filling.{take_filled_up, drop_filled_up, pressed_parts}
 
 -- a part from the start, as code takes it
 pub front : (c n : ℕ) (xs ys : List ℤ) → length xs ≡ n → ys ≡ filled c xs → take (n - 0) ys ≡ xs
 front c n xs ys l e = ap (take (n - 0)) e ∙ ap (λ (k : ℕ). take k (filled c xs)) (sub-zero n) ∙ take_filled_up c n xs l
 
-module _ (n m : ℕ) (X : List Float) (h : n + m ≤ length X) where
+module _ (n m : ℕ) (X : List Float) (h : length X ≡ n + m) where
   pub pulls_long : length (pulled (take n X)) ≡ n
   pulls_long = length-map (take n X) nearest ∙ length-take-le n X (omega arith)
 
-  pub pressures_long : length (pressed (take m (drop n X))) ≡ m
-  pressures_long = length-map (take m (drop n X)) scaled ∙ length-take-le m (drop n X) (omega (arith, length-drop n X))
+  pub pressures_long : length (pressed (drop n X)) ≡ m
+  pressures_long = length-map (drop n X) scaled ∙ length-drop n X ∙ omega arith
 
-  pub pulls_same : pulled (take n X) ≡ pulled (take n (take (n + m) X))
-  pulls_same = ap pulled (sym (take-take n (n + m) X (omega arith)))
+  pub pulls_are : (us : List Float) (zs : List ℤ) → us ≡ take n X → zs ≡ filled 16 (pulled us) → zs ≡ filled 16 (pulled (take n X))
+  pulls_are us zs e f = f ∙ ap (λ x. filled 16 (pulled x)) e
 
-  pub pressures_same : pressed (take m (drop n X)) ≡ pressed (drop n (take (n + m) X))
-  pressures_same = ap pressed (sym (drop-take n m X))
+  pub pressures_are : (us vs : List Float) (zs : List ℤ) → us ≡ drop n X → vs ≡ map in_parts us → zs ≡ filled 16 (pulled vs) → zs ≡ filled 16 (pressed (drop n X))
+  pressures_are us vs zs e f g = g ∙ ap (λ x. filled 16 (pulled x)) (f ∙ ap (map in_parts) e) ∙ ap (filled 16) (pressed_parts (drop n X))
 
   pub pulls_point : ((k : ℕ) → k < n + m → inside (at X k) ≡ true) → many_within n 1073741824 (pulled (take n X)) ≡ true
   pulls_point q =

@@ -1,7 +1,7 @@
 -- A step, put together from its system, its reading and its choice.
 use Rattle.std.proofs.Common.{◌≡◌, ℕ, ◌+◌, ◌<◌, ◌≤◌, true, false, eqb, leb, List, length, take, Some, None, Option, refl, ap, ◌∙◌, subst, arith, eqb-true, le-leb}
-use lib.Ieee.{Float, nan}
-use Rattle.std.proofs.lemmas.List.{get_or_append_left, take_at}
+use lib.Ieee.{Float}
+use Rattle.std.proofs.lemmas.List.{take_at}
 use Rattle.std.proofs.lemmas.Bool.{and_parts}
 use Rattle.std.specs.Option.{option_map}
 use Rattle.duality.specs.Problem.{Problem}
@@ -36,13 +36,14 @@ some_from (Some us) X e = let f : X ≡ padded us = cc in (us, (refl, f))
 
 -- the unknowns in their array
 module _ (n : ℕ) (us X : List Float) (e : X ≡ padded us) (w : Solves n (Some us)) where
-  pub array_inside : (k : ℕ) → k < n → inside (at X k) ≡ true
-  array_inside k l =
-      let t : k < length us = omega (arith, w.0) in
-      ap (λ z. inside (at z k)) e ∙ ap inside (get_or_append_left us _ nan k t) ∙ w.1 k t
-
   pub array_front : take n X ≡ us
   array_front = ap (take n) e ∙ take_at us _ n w.0
+
+  pub front_long : length (take n X) ≡ n
+  front_long = ap length array_front ∙ w.0
+
+  pub front_inside : (k : ℕ) → k < n → inside (at (take n X) k) ≡ true
+  front_inside k l = ap (λ z. inside (at z k)) array_front ∙ w.1 k (omega (arith, w.0))
 
 module _ (P : Problem) (n m : ℕ) (ms : List Member) (s : Float) where
   pub sizes_fit : has_sizes P n m ≡ true → (P.ropes ≡ n) × (P.rows ≡ m)

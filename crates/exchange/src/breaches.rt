@@ -7,40 +7,43 @@ ghost use Rattle.exchange.specs.Breaches.{holds as holds_of, value_at, breach as
 use crate::members::{Breach, Limit, Member, Side};
 use crate::rounded::Rounded;
 use crate::systems::held_at;
+use crate::working::WorkingSet;
 use terms::excess;
 
-impl Rounded<'_> {
+impl WorkingSet<'_> {
     /// Whether a limit is held, on either side.
     fn holds(&self, limit: Limit) -> bool
         ensures { result ≡ holds_of self.now.members.now limit }
     {
         self.members.iter().any(|member| member.limit == limit)
     }
+}
 
+impl Rounded<'_> {
     fn value_at(&self, limit: Limit) -> i64
-        requires { Of self.now.job.now.ropes self.now.job.now.rows limit }
-        ensures value { result ≡ value_at (problem_of self.now.job.now) self.now.pulls.now limit }
+        requires { Of self.now.set.job.now.ropes self.now.set.job.now.rows limit }
+        ensures value { result ≡ value_at (problem_of self.now.set.job.now) self.now.pulls.now limit }
         ensures small { unsigned_abs result ≤ 2 ^ 54 }
     {
         match limit {
-            Limit::Row(i) => self.job.row_sum(i, self.pulls).unwrap_or(0),
+            Limit::Row(i) => self.set.job.row_sum(i, self.pulls).unwrap(),
             Limit::Bound(j) => self.pulls[j],
         }
     }
 
     fn breach(&self, limit: Limit) -> Breach
-        requires { Of self.now.job.now.ropes self.now.job.now.rows limit }
-        ensures { result ≡ breach_of (problem_of self.now.job.now) self.now.pulls.now limit }
+        requires { Of self.now.set.job.now.ropes self.now.set.job.now.rows limit }
+        ensures { result ≡ breach_of (problem_of self.now.set.job.now) self.now.pulls.now limit }
     {
         let lower = held_at(
-            self.job,
+            self.set.job,
             Member {
                 limit,
                 side: Side::Lower,
             },
         );
         let upper = held_at(
-            self.job,
+            self.set.job,
             Member {
                 limit,
                 side: Side::Upper,
@@ -55,10 +58,10 @@ impl Rounded<'_> {
     }
 
     fn worse(&self, best: Breach, limit: Limit) -> Breach
-        requires { Of self.now.job.now.ropes self.now.job.now.rows limit }
-        ensures { result ≡ worse_of (problem_of self.now.job.now) self.now.members.now self.now.pulls.now best limit }
+        requires { Of self.now.set.job.now.ropes self.now.set.job.now.rows limit }
+        ensures { result ≡ worse_of (problem_of self.now.set.job.now) self.now.set.members.now self.now.pulls.now best limit }
     {
-        if self.holds(limit) {
+        if self.set.holds(limit) {
             return best;
         }
         let other = self.breach(limit);
@@ -71,7 +74,7 @@ impl Rounded<'_> {
 
     /// The limit that the point breaks most, among those that are not held: rows before bounds at a draw.
     pub(crate) fn worst(&self) -> Breach
-        ensures { result ≡ worst_of (problem_of self.now.job.now) self.now.members.now self.now.pulls.now }
+        ensures { result ≡ worst_of (problem_of self.now.set.job.now) self.now.set.members.now self.now.pulls.now }
     {
         let mut best = Breach {
             ticks: 0,
@@ -80,10 +83,10 @@ impl Rounded<'_> {
                 side: Side::Lower,
             },
         };
-        for i in 0..self.job.rows {
+        for i in 0..self.set.job.rows {
             best = self.worse(best, Limit::Row(i));
         }
-        for j in 0..self.job.ropes {
+        for j in 0..self.set.job.ropes {
             best = self.worse(best, Limit::Bound(j));
         }
         best

@@ -18,10 +18,10 @@ fn wrongness(side: Side, pressure: i64) -> u64
 impl Rounded<'_> {
     /// The most wrong multiplier, the first of equals.
     fn most_wrong(&self) -> Wrong
-        ensures { result ≡ most_wrong self.now.members.now self.now.pressures.now }
+        ensures { result ≡ most_wrong self.now.set.members.now self.now.pressures.now }
     {
         let mut most = Wrong { size: 0, place: 0 };
-        for (k, (member, pressure)) in self.members.iter().zip(self.pressures).enumerate() {
+        for (k, (member, pressure)) in self.set.members.iter().zip(self.pressures).enumerate() {
             let size = wrongness(member.side, *pressure);
             if size > most.size {
                 most = Wrong { size, place: k };
@@ -32,11 +32,11 @@ impl Rounded<'_> {
 
     /// What becomes of the working set.
     pub(crate) fn choose(&self) -> Choice
-        ensures { result ≡ chosen (problem_of self.now.job.now) self.now.members.now self.now.pulls.now self.now.pressures.now }
+        ensures { result ≡ chosen (problem_of self.now.set.job.now) self.now.set.members.now self.now.pulls.now self.now.pressures.now }
     {
         let breach = self.worst();
         if breach.ticks > 0 {
-            if self.members.len() < self.job.ropes {
+            if self.set.members.len() < self.set.job.ropes {
                 return Choice::Enter(breach.member);
             }
             return Choice::Full;

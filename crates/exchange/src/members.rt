@@ -3,6 +3,7 @@ ghost use Rattle.std.specs.Prelude.{Some};
 ghost use Rattle.exchange.specs.Ends.{name_of};
 
 use std::fmt;
+use terms::{MOST_ROPES, MOST_ROWS};
 
 /// A limit of the problem: a row, or the bound of a rope.
 #[derive(Clone, Copy, Debug, PartialEq, Eq)]
@@ -44,8 +45,8 @@ pub(crate) struct Wrong {
 /// What a step offers: a point inside the bounds, and a multiplier in 256ths for each row. Places past the ropes and the rows are 0.
 #[derive(Clone, Copy, Debug, PartialEq, Eq)]
 pub struct Offer {
-    pub point: [i64; 16],
-    pub multipliers: [i64; 32],
+    pub point: [i64; MOST_ROPES],
+    pub multipliers: [i64; MOST_ROWS],
 }
 
 /// What becomes of the working set after a step.

@@ -2,16 +2,14 @@
 ghost use Rattle.std.specs.Prelude.{◌≡◌, true, length};
 ghost use Rattle.duality.specs.Tests.{many_within};
 
-use crate::members::Member;
-use job::Job;
+use crate::working::WorkingSet;
 
 /// A working set's solution in whole numbers: a pull for each rope of the job, and a pressure for each member.
 #[derive(Clone, Copy)]
 pub(crate) struct Rounded<'a> {
-    pub(crate) job: &'a Job,
-    pub(crate) members: &'a [Member],
+    pub(crate) set: WorkingSet<'a>,
     pub(crate) pulls: &'a [i64],
     pub(crate) pressures: &'a [i64],
-    ghost point: { many_within job.now.ropes 1073741824 pulls.now ≡ true },
-    ghost paired: { length pressures.now ≡ length members.now },
+    ghost point: { many_within set.job.now.ropes 1073741824 pulls.now ≡ true },
+    ghost paired: { length pressures.now ≡ length set.members.now },
 }

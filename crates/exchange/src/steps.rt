@@ -1,6 +1,6 @@
 //! One step after another.
 ghost use Rattle.std.specs.Prelude.{◌≡◌, ℕ, ◌+◌, ◌<◌, ◌≤◌, true, List, [], length, take, IfOk, Float};
-ghost use Rattle.job.specs.Numbers.{has_sizes, problem_of};
+ghost use Rattle.job.specs.Numbers.{problem_of};
 ghost use Rattle.elimination.specs.Lines.{at, inside, largest};
 ghost use Rattle.exchange.specs.Systems.{size_of};
 ghost use Rattle.exchange.specs.Choice.{ChosenWell};
@@ -11,27 +11,27 @@ use crate::exchanges::Exchange;
 use crate::members::{Choice, Offer, Step};
 use crate::offers::point_of;
 use crate::rounded::Rounded;
-use crate::rounds::{pressures_of, rounded};
+use crate::rounds::{in_parts, rounded};
 use crate::working::WorkingSet;
-use elimination::{LARGEST, solve};
+use elimination::{LARGEST, LINE_PLACES, MOST_UNKNOWNS, solve};
 use job::Job;
 use std::alloc::{AllocError, Global};
 
 impl WorkingSet<'_> {
     /// What the unknowns of the solved system offer, and how the working set changes.
-    fn reading(&self, unknowns: &[f64; 32]) -> (Offer, Choice)
-        requires { (k : ℕ) → k < size_of (problem_of self.now.job.now) self.now.members.now → inside (at unknowns.now k) ≡ true }
-        ensures offer { result.0 ≡ offered (problem_of self.now.job.now) self.now.members.now
-            (take (size_of (problem_of self.now.job.now) self.now.members.now) unknowns.now) }
-        ensures choice { result.1 ≡ choice_at (problem_of self.now.job.now) self.now.members.now
-            (take (size_of (problem_of self.now.job.now) self.now.members.now) unknowns.now) }
+    fn reading(&self, unknowns: &mut [f64]) -> (Offer, Choice)
+        requires all { length unknowns.old ≡ size_of (problem_of self.now.job.now) self.now.members.now }
+        requires inside { (k : ℕ) → k < size_of (problem_of self.now.job.now) self.now.members.now → inside (at unknowns.old k) ≡ true }
+        ensures offer { result.0 ≡ offered (problem_of self.now.job.now) self.now.members.now unknowns.old }
+        ensures choice { result.1 ≡ choice_at (problem_of self.now.job.now) self.now.members.now unknowns.old }
     {
         let (job, members) = (self.job, self.members);
-        let pulls = rounded(&unknowns[..job.ropes]);
-        let pressures = pressures_of(unknowns, job.ropes, members.len());
+        let (pulls, pressures) = unknowns.split_at_mut(job.ropes);
+        in_parts(pressures);
+        let pulls = rounded(pulls);
+        let pressures = rounded(pressures);
         let solution = Rounded {
-            job,
-            members,
+            set: *self,
             pulls: &pulls[0..job.ropes],
             pressures: &pressures[0..members.len()],
         };
@@ -56,12 +56,6 @@ impl Exchange {
         })
     }
 
-    fn is_for(&self, job: &Job) -> bool
-        ensures { result ≡ has_sizes (problem_of job.now) self.now.ropes self.now.rows }
-    {
-        job.ropes == self.ropes && job.rows == self.rows
-    }
-
     fn follow(&mut self, choice: Choice)
         requires { Follows self.old.ropes self.old.rows self.old.members.items choice }
         ensures members { self.new.members.items ≡ changed self.old.members.items choice }
@@ -71,7 +65,7 @@ impl Exchange {
     {
         match choice {
             Choice::Enter(member) => {
-                let _ = self.members.push(member);
+                self.members.push_reserved(member);
             }
             Choice::Leave(k) => {
                 let _ = self.members.remove(k);
@@ -92,22 +86,23 @@ impl Exchange {
         ensures choice { (us : List Float) → ChosenWell (problem_of job.now) self.old.members.items
             (pulls_of (problem_of job.now) us) (choice_at (problem_of job.now) self.old.members.items us) }
     {
-        if !self.is_for(job) {
+        if !job.has_sizes(self.ropes, self.rows) {
             return Step::Refused;
         }
         let set = WorkingSet {
             job,
             members: &self.members,
         };
+        let size = set.size();
         // The square is made here, where `solve` takes it: one that a function hands out is copied once more.
-        let mut lines = [[0.0; 33]; 32];
+        let mut lines = [[0.0; LINE_PLACES]; MOST_UNKNOWNS];
         set.fill_square(&mut lines);
-        let solution = solve(lines, set.size(), self.smallest);
+        let solution = solve(lines, size, self.smallest);
         self.smallest = solution.smallest;
-        let Some(unknowns) = solution.unknowns else {
+        let Some(mut unknowns) = solution.unknowns else {
             return Step::Stuck;
         };
-        let (offer, choice) = set.reading(&unknowns);
+        let (offer, choice) = set.reading(&mut unknowns[..size]);
         self.follow(choice);
         Step::Found(offer, choice)
     }

@@ -7,6 +7,7 @@ ghost use Rattle.exchange.specs.Systems.{size_of, rope_entry, member_entry, entr
 
 use crate::members::{Limit, Member, Side};
 use crate::working::WorkingSet;
+use elimination::{LINE_PLACES, MOST_UNKNOWNS};
 use job::Job;
 use std::num::nearest_i64_to_f64;
 
@@ -126,7 +127,7 @@ impl WorkingSet<'_> {
         }
     }
 
-    fn fill_lines(&self, lines: &mut [[f64; 33]])
+    fn fill_lines(&self, lines: &mut [[f64; LINE_PLACES]])
         requires { length lines.old ≡ self.now.job.now.ropes + length self.now.members.now }
         ensures { seen (length lines.old + 1) lines.new ≡ system_of (problem_of self.now.job.now) self.now.members.now }
     {
@@ -137,7 +138,7 @@ impl WorkingSet<'_> {
     }
 
     /// Writes the system of the working set into the first places of a square.
-    pub(crate) fn fill_square(&self, lines: &mut [[f64; 33]; 32])
+    pub(crate) fn fill_square(&self, lines: &mut [[f64; LINE_PLACES]; MOST_UNKNOWNS])
         ensures { seen (size_of (problem_of self.now.job.now) self.now.members.now + 1)
             (take (size_of (problem_of self.now.job.now) self.now.members.now) lines.new)
             ≡ system_of (problem_of self.now.job.now) self.now.members.now }

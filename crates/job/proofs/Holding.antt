@@ -1,35 +1,29 @@
 -- Points inside their bounds, and points held there.
-use Rattle.std.proofs.Common.{◌≡◌, ℕ, ◌+◌, ◌<◌, ◌≤◌, Bool, true, false, eqb, ◌≢◌, List, map, length, set, ℤ, pos, ◌≤ℤ◌, Decides, sym, ap, ◌∙◌, ⊎_elim, arith}
+use Rattle.std.proofs.Common.{◌≡◌, ℕ, ◌+◌, ◌<◌, ◌≤◌, Bool, true, false, eqb, ◌≢◌, List, map, length, set, ℤ, pos, ◌≤ℤ◌, is_some, Option, vec_items, Decides, min, not, sym, ap, ◌∙◌, ⊎_elim, arith}
 use Rattle.std.specs.List.{range_with_len}
 use Rattle.std.specs.Int.{int_max, int_min}
 use Rattle.std.proofs.lemmas.List.FromFn.{fill_by_all}
 use Rattle.std.proofs.lemmas.List.{get_or-set_same, get_or-set_other}
 use Rattle.std.proofs.lemmas.Int.{clamps}
-use Rattle.std.proofs.lemmas.Bool.{cases_lt, and_parts, and_from, and_left, and_right, ne_eqb, eqb-true, eq-eqb, cond-true}
+use Rattle.std.proofs.lemmas.Bool.{cases_lt, and_parts, and_from, and_left, ne_eqb, eqb-true, eq-eqb, cond-true}
 use Rattle.duality.specs.Lists.{places}
 use Rattle.duality.specs.Problem.{Problem}
 use Rattle.duality.proofs.Ring.{lin}
-use Rattle.duality.specs.Tests.{all, between}
+use Rattle.duality.specs.Tests.{all, between, first_not}
+use Rattle.terms.proofs.Firsts.{all_from_none}
 use Rattle.job.specs.Numbers.{problem_of}
 use Rattle.job.specs.Bounds.{InBounds, is_in_bounds, held, clamped}
 use Rattle.job.specs.declared.numbers.Job.{Job}
-use Rattle.duality.proofs.Tests.{all_at, all_not, all_from, between_parts, between_from, ordered_at}
+use Rattle.duality.proofs.Tests.{all_at, all_from, between_parts, between_from, ordered_at}
 
 module _ (P : Problem) where
   abbrev pub lies : List ℤ → ℕ → Bool
   lies z k = between (P.l k) (P.u k) (places z k)
 
-  pub lies_is : (z : List ℤ) (k : ℕ) (low high x : ℤ) (b : Bool) → low ≡ P.l k → high ≡ P.u k → x ≡ places z k → b ≡ between low high x → lies z k ≡ b
-  lies_is z k low high x b el eh ex e = cc
-
-  pub wrong_length : (z : List ℤ) → (length z ≡ P.ropes → ⊥) → false ≡ is_in_bounds P z
-  wrong_length z ne = sym (and_left (eqb (length z) P.ropes) (all (lies z) P.ropes) (ne_eqb _ _ ne))
-
-  pub breaks : (z : List ℤ) (k : ℕ) → k < P.ropes → lies z k ≡ false → false ≡ is_in_bounds P z
-  breaks z k l e = sym (and_right (eqb (length z) P.ropes) (all (lies z) P.ropes) (all_not (lies z) k P.ropes e l))
-
-  pub lie_all : (z : List ℤ) (i : ℕ) → length z ≡ P.ropes → i ≡ P.ropes → all (lies z) i ≡ true → true ≡ is_in_bounds P z
-  lie_all z i long e h = sym (and_from (eqb (length z) P.ropes) (all (lies z) P.ropes) (eq-eqb _ _ long) (ap (all (lies z)) (sym e) ∙ h))
+  pub wrong_length : (z : List ℤ) → (length z ≡ P.ropes → ⊥) → eqb (length z) P.ropes ≡ is_in_bounds P z
+  wrong_length z ne =
+      let no' : eqb (length z) P.ropes ≡ false = ne_eqb _ _ ne in
+      no' ∙ sym (and_left (eqb (length z) P.ropes) (all (lies z) P.ropes) no')
 
   pub in_bounds_out : (z : List ℤ) → is_in_bounds P z ≡ true → InBounds P z
   in_bounds_out z e =
@@ -81,6 +75,15 @@ module _ (j : Job) where
   held_all z y i lz ly le h =
       fill_by_all (λ k. held ((problem_of j).l k) ((problem_of j).u k) (places z k)) y j.ropes (pos 0) (ly ∙ lz) (λ k l. h.0 k (omega arith))
       ∙ sym (cond-true (eqb (length z) j.ropes) (map (λ k. held ((problem_of j).l k) ((problem_of j).u k) (places z k)) (range_with_len 0 j.ropes)) z (eq-eqb _ _ lz))
+
+  -- a point of the right length, of which no number was found outside
+  pub none_outside : (z lows highs : List ℤ) (o : Option ℕ) (b : Bool) → lows ≡ vec_items j.l → highs ≡ vec_items j.u → length z ≡ j.ropes →
+      o ≡ first_not (λ k. between (places lows k) (places highs k) (places z k)) (min (length lows) (min (length highs) (length z))) → is_some o ≡ not b →
+      b ≡ is_in_bounds (problem_of j) z
+  none_outside z lows highs o b el eh long e h =
+      let n : min (length (vec_items j.l)) (min (length (vec_items j.u)) (length z)) ≡ j.ropes = omega (arith, j.lefts.0, j.l.ok.0, j.rights.0, j.u.ok.0) in
+      let all = all_from_none (lies (problem_of j) z) j.ropes o b (rw (el, eh, n) at e) h in
+      rw (eq-eqb _ _ long) all
 
   pub open_at : (k : ℕ) → k < j.ropes → (problem_of j).l k ≤ℤ (problem_of j).u k
   open_at k l = ordered_at _ _ k j.wide (omega (arith, j.lefts.0, j.l.ok.0))

@@ -1,5 +1,6 @@
 pub mod Bits
 pub mod Strides
+pub mod Given
 pub mod Reading
 pub mod Scoring
 pub mod Outside

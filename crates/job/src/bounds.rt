@@ -4,7 +4,7 @@ ghost use Rattle.job.specs.Numbers.{problem_of};
 ghost use Rattle.job.specs.Bounds.{clamped, is_in_bounds, InBounds};
 
 use crate::numbers::Job;
-use terms::between;
+use terms::first_outside;
 
 impl Job {
     /// Whether z has a number for each rope, within its bounds.
@@ -12,15 +12,7 @@ impl Job {
         ensures value { result ≡ is_in_bounds (problem_of self.now) z.now }
         ensures law { Decides result (InBounds (problem_of self.now) z.now) }
     {
-        if z.len() != self.ropes {
-            return false;
-        }
-        for (j, x) in z.iter().enumerate() {
-            if !between(self.l[j], self.u[j], *x) {
-                return false;
-            }
-        }
-        true
+        z.len() == self.ropes && first_outside(&self.l, &self.u, z).is_none()
     }
 
     /// Holds each number of z inside its rope's bounds. A list of another length stays as it is, and the answer is false.

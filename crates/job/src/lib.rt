@@ -9,6 +9,7 @@ mod judges;
 mod makes;
 mod numbers;
 mod scores;
+mod sizes;
 mod sums;
 
 pub use numbers::Job;

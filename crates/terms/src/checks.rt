@@ -1,5 +1,5 @@
 //! Tests of numbers and of whole lists.
-ghost use Rattle.std.specs.Prelude.{◌≡◌, ◌&&◌, ◌==◌, length};
+ghost use Rattle.std.specs.Prelude.{◌≡◌, ◌&&◌, ◌==◌, length, min};
 ghost use Rattle.duality.specs.Lists.{places};
 ghost use Rattle.duality.specs.Tests.{first_not, within as is_within, between as is_between, all_within, in_order, many_within};
 
@@ -22,6 +22,16 @@ pub fn first_beyond(limit: u64, xs: &[i64]) -> Option<usize>
     ensures { result ≡ first_not (λ k. is_within limit (places xs.now k)) (length xs.now) }
 {
     xs.iter().position(|x| !within(limit, *x))
+}
+
+/// The place of the first number outside its bounds, as far as the shortest of the three lists goes.
+pub fn first_outside(lows: &[i64], highs: &[i64], xs: &[i64]) -> Option<usize>
+    ensures { result ≡ first_not (λ k. is_between (places lows.now k) (places highs.now k) (places xs.now k))
+        (min (length lows.now) (min (length highs.now) (length xs.now))) }
+{
+    lows.iter()
+        .zip(highs.iter().zip(xs))
+        .position(|(low, (high, x))| !between(*low, *high, *x))
 }
 
 /// Whether each number lies within ±limit.

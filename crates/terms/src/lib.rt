@@ -10,7 +10,7 @@ mod numbers;
 mod ticks;
 mod unmet;
 
-pub use checks::{all_within, between, first_beyond, in_order, many_within, within};
+pub use checks::{all_within, between, first_beyond, first_outside, in_order, many_within, within};
 pub use limits::{
     MOST_ROPES, MOST_ROWS, MULTIPLIER_LIMIT, PLACE_LIMIT, PRICE_LIMIT, PULL_LIMIT, ROUNDED_LIMIT,
     ROW_LIMIT,

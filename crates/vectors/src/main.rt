@@ -7,7 +7,7 @@
 //! One that begins with 2 is an exchange, written as a walk is, with steps in the place of moves.
 #![tactic(auto)]
 
-use elimination::{Solution, nearest, solve};
+use elimination::{LINE_PLACES, MOST_UNKNOWNS, Solution, nearest, solve};
 use exchange::{Exchange, Offer, Report, Step, end_after};
 use job::Job;
 use std::alloc::{AllocError, Global};
@@ -82,7 +82,7 @@ fn print_solution(rt: &HostRuntime, n: usize, solution: &Solution) -> io::Result
 
 fn run_system(rt: &HostRuntime, line: &mut Line) -> io::Result<()> {
     let n = line.size();
-    let mut lines = [[0.0; 33]; 32];
+    let mut lines = [[0.0; LINE_PLACES]; MOST_UNKNOWNS];
     if n <= 32 {
         for row in lines.iter_mut().take(n) {
             for x in row.iter_mut().take(n + 1) {

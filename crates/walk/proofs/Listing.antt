@@ -1,10 +1,9 @@
 -- Lists that are filled number by number.
-use Rattle.std.proofs.Common.{◌≡◌, ℕ, ◌+◌, ◌<◌, ◌≤◌, Bool, true, ◌≢◌, List, [], ◌∷◌, ◌++◌, length, set, ℤ, pos, Some, None, Option, unwrap_or, sym, ap, ◌∙◌, ⊎_elim, arith}
+use Rattle.std.proofs.Common.{◌≡◌, ℕ, ◌+◌, ◌<◌, ◌≤◌, ◌≢◌, List, [], ◌∷◌, ◌++◌, length, set, ℤ, pos, sym, ap, ◌∙◌, ⊎_elim, arith}
 use Rattle.std.proofs.lemmas.List.{length_push, get_or_push, get_or_append_left, get_or-set_same, get_or-set_other}
-use Rattle.std.proofs.lemmas.Bool.{cases_lt, cond-true}
+use Rattle.std.proofs.lemmas.Bool.{cases_lt}
 use Rattle.duality.specs.Lists.{places}
 use Rattle.duality.specs.Sums.{Vector}
-use Rattle.duality.specs.Tests.{answer}
 use Rattle.walk.specs.Running.{Lists}
 
 -- the numbers below i are those of the vector
@@ -23,10 +22,6 @@ below_more i xs v x l h e k m =
 
 pub below_all : (i n : ℕ) (xs : List ℤ) (v : Vector) → length xs ≡ n → n ≤ i → ListsBelow i xs v → Lists n xs v
 below_all i n xs v long l h = (long, λ k m. h k (omega arith))
-
--- an answer where the test holds
-pub given_value : (b : Bool) (v : ℤ) (o : Option ℤ) → o ≡ answer b v → b ≡ true → unwrap_or o (pos 0) ≡ v
-given_value b v o e t = ap (λ (p : Option ℤ). unwrap_or p (pos 0)) (e ∙ cond-true b (Some v) None t)
 
 -- the same for a list that grows by a push
 pub lists_none : (xs : List ℤ) (v : Vector) → xs ≡ [] → Lists 0 xs v

@@ -1,12 +1,11 @@
 -- One turn of the walk: what is left of it, from the point that a move leads to.
-use Rattle.std.proofs.Common.{◌≡◌, ℕ, zero, suc, ◌+◌, ◌-◌, ◌<◌, ◌≤◌, Bool, true, false, cond, List, ℤ, is_some, Some, None, Option, sym, ap, ◌∙◌, add-zero, arith}
+use Rattle.std.proofs.Common.{◌≡◌, ℕ, zero, suc, ◌+◌, ◌-◌, ◌<◌, ◌≤◌, cond, List, ℤ, is_some, Some, None, Option, sym, ap, ◌∙◌, add-zero, arith}
 use native.Mathlib.Nat.{sub-zero}
 use Rattle.duality.specs.Problem.{Problem}
 use Rattle.walk.specs.Moves.{after}
 use Rattle.walk.specs.Walks.{first_move, Ended, one_more, onward, walk_from}
 use Rattle.walk.specs.declared.moves.Move.{Move}
 use Rattle.walk.specs.declared.ends.End.TheVariants.{Settled, Spent}
-use Rattle.walk.proofs.AlongRopes.{either_stands}
 
 -- with n moves made before
 abbrev pub plus : ℕ → Ended → Ended
@@ -38,27 +37,25 @@ module _ (P : Problem) where
       ∙ sym (ap (plus n) s)
       ∙ inv
 
-  pub ends_settled : (b n : ℕ) (z y : List ℤ) (may : Bool) (w : Ended) → None ≡ first_move P z → y ≡ cond may z z → plus n (walk_from P (b - n) z) ≡ w →
-      ◌≡◌ {A = Ended} (record { point = y; moves = n; end = Settled }) w
-  ends_settled b n z y may w e ey inv =
-      let count : n ≡ 0 + n = omega arith in
-      ap (λ (v : List ℤ). record { point = v; moves = n; end = Settled }) (ey ∙ either_stands may z)
+  -- the walk is over after k moves, which is to say after n
+  pub ends_settled : (b n k : ℕ) (z y : List ℤ) (w : Ended) → k ≡ n → None ≡ first_move P z → y ≡ z → plus n (walk_from P (b - n) z) ≡ w →
+      ◌≡◌ {A = Ended} (record { point = y; moves = k; end = Settled }) w
+  ends_settled b n k z y w ek e ey inv =
+      let count : k ≡ 0 + n = omega arith in
+      ap (λ (v : List ℤ). record { point = v; moves = k; end = Settled }) ey
       ∙ ap (λ (i : ℕ). record { point = z; moves = i; end = Settled }) count
       ∙ sym (ap (plus n) (walk_none (b - n) z (sym e)))
       ∙ inv
 
-  pub ends_spent : (b n : ℕ) (z y : List ℤ) (m : Move) (may : Bool) (w : Ended) → Some m ≡ first_move P z → y ≡ cond may (after z m) z → may ≡ false → b ≤ n →
-      plus n (walk_from P (b - n) z) ≡ w → ◌≡◌ {A = Ended} (record { point = y; moves = n; end = Spent }) w
-  ends_spent b n z y m may w e ey no' l inv =
+  pub ends_spent : (b n k : ℕ) (z y : List ℤ) (m : Move) (w : Ended) → k ≡ n → Some m ≡ first_move P z → y ≡ z → b ≤ n → plus n (walk_from P (b - n) z) ≡ w →
+      ◌≡◌ {A = Ended} (record { point = y; moves = k; end = Spent }) w
+  ends_spent b n k z y m w ek e ey l inv =
       let left : b - n ≡ 0 = omega arith in
-      let count : n ≡ 0 + n = omega arith in
-      ap (λ (v : List ℤ). record { point = v; moves = n; end = Spent }) (ey ∙ ap (λ (t : Bool). cond t (after z m) z) no')
+      let count : k ≡ 0 + n = omega arith in
+      ap (λ (v : List ℤ). record { point = v; moves = k; end = Spent }) ey
       ∙ ap (λ (i : ℕ). record { point = z; moves = i; end = Spent }) count
       ∙ sym (ap (plus n) (ap (λ (i : ℕ). walk_from P i z) left ∙ walk_spent z m (sym e)))
       ∙ inv
-
-pub kept_point : (z y : List ℤ) (m : Move) (may : Bool) → y ≡ cond may (after z m) z → may ≡ true → y ≡ after z m
-kept_point z y m may ey yes' = ey ∙ ap (λ (t : Bool). cond t (after z m) z) yes'
 
 pub from_start : (P : Problem) (b : ℕ) (z : List ℤ) → plus 0 (walk_from P (b - 0) z) ≡ walk_from P b z
 from_start P b z =

@@ -83,7 +83,7 @@ fn fill_sums(sums: &mut [i64], job: &Job, z: &[i64])
     ensures { Lists job.now.rows sums.new (row_at (problem_of job.now) (places z.now)) }
 {
     for (i, sum) in sums.iter_mut().enumerate() {
-        *sum = job.row_sum(i, z).unwrap_or(0);
+        *sum = job.row_sum(i, z).unwrap();
     }
 }
 
@@ -94,7 +94,7 @@ fn fill_slopes(slopes: &mut [i64], job: &Job, z: &[i64])
     ensures { Lists job.now.ropes slopes.new (gradient_of (problem_of job.now) (places z.now)) }
 {
     for (k, slope) in slopes.iter_mut().enumerate() {
-        *slope = job.gradient(k, z).unwrap_or(0);
+        *slope = job.gradient(k, z).unwrap();
     }
 }
 
@@ -115,7 +115,7 @@ impl Room {
     pub(crate) fn is_for(&self, job: &Job) -> bool
         ensures { result ≡ has_sizes (problem_of job.now) (ropes_in self.now) (rows_in self.now) }
     {
-        job.ropes == self.slopes.len() && job.rows == self.sums.len()
+        job.has_sizes(self.slopes.len(), self.sums.len())
     }
 
     /// The running sums of a point.
@@ -126,8 +126,7 @@ impl Room {
     {
         fill_sums(&mut self.sums, job, z);
         fill_slopes(&mut self.slopes, job, z);
-        let outside = job.outside(z).unwrap_or(0);
-        self.outside = outside;
+        self.outside = job.outside(z).unwrap();
     }
 
     /// Follows a shift.

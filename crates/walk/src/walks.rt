@@ -22,32 +22,24 @@ fn descend(job: &Job, z: &mut [i64], room: &mut Room, budget: u32) -> Walked
     ensures room { Sized job.now.ropes job.now.rows room.new }
 {
     room.start(job, z);
-    let mut moves = 0u32;
-    loop {
-        let may = moves < budget;
-        match search(job, z, room, may) {
-            None => {
-                return Walked {
-                    moves,
-                    end: End::Settled,
-                };
-            }
-            Some(m) => {
-                if !may {
-                    return Walked {
-                        moves,
-                        end: End::Spent,
-                    };
-                }
-                room.shift(Shift {
-                    job,
-                    rope: m.rope,
-                    by: m.by,
-                });
-                moves += 1;
-            }
-        }
+    for moves in 0..budget {
+        let Some(m) = search(job, z, room, true) else {
+            return Walked {
+                moves,
+                end: End::Settled,
+            };
+        };
+        room.shift(Shift {
+            job,
+            rope: m.rope,
+            by: m.by,
+        });
     }
+    let end = match search(job, z, room, false) {
+        None => End::Settled,
+        Some(_) => End::Spent,
+    };
+    Walked { moves: budget, end }
 }
 
 /// Walks down from a point inside its bounds, by at most `budget` moves, and leaves the point where the walk ends.

@@ -8,11 +8,11 @@ use Rattle.elimination.proofs.Inside.{solves}
 use Rattle.elimination.proofs.Whole.{in_square}
 use Rattle.elimination.proofs.systems.solve.Goals as goal
 
-pub returns-else-n-gt32 : goal.returns-else-n-gt32
-returns-else-n-gt32 c =
+pub returns-else-n-gt-MOST_UNKNOWNS : goal.returns-else-n-gt-MOST_UNKNOWNS
+returns-else-n-gt-MOST_UNKNOWNS c =
     let n = c.args.n in
     let ls = c.args.lines in
-    let e = in_square n c.args.smallest ls c.if-n-gt32.false in
+    let e = in_square n c.args.smallest ls c.if-n-gt-MOST_UNKNOWNS.false in
     let g : length ls ≡ 32 = search rules in
     let l = length_seen (n + 1) (take n ls) ∙ length-take-le n ls (omega arith) in
     let S = solved c.args.smallest (seen (n + 1) (take n ls)) in

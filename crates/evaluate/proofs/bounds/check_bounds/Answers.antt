@@ -1,14 +1,10 @@
-use Rattle.std.proofs.Common.{◌≡◌, true, false, length, vec_len, sym, ap, ◌∙◌, arith, w64, SFits, rules}
-use Rattle.std.proofs.lemmas.Int.{to_z-of_z}
+use Rattle.std.proofs.Common.{◌≡◌, length, vec_len, sym, ◌∙◌, arith}
 use Rattle.std.proofs.lemmas.Bool.{eq-eqb, ne_eqb}
 use Rattle.duality.specs.Lists.{places}
-use Rattle.duality.specs.Tests.{first_not}
-use Rattle.duality.proofs.Tests.{first_more}
 use Rattle.evaluate.specs.Stated.{problem_of}
 use Rattle.evaluate.specs.Findings.{BoundKept}
-use Rattle.evaluate.proofs.Reading.{l_read, u_read}
-use Rattle.evaluate.proofs.Firsts.{bound_decides, finds, found_broken, found_kept, found_no_point}
-use Rattle.evaluate.proofs.Bounding.{lies, lies_is}
+use Rattle.evaluate.proofs.Firsts.{bound_decides, finds, found_is, found_no_point}
+use Rattle.evaluate.proofs.Bounding.{lies, first_lies}
 use Rattle.evaluate.proofs.bounds.check_bounds.Goals as goal
 
 pub returns-then-z-len : goal.returns-then-z-len
@@ -20,38 +16,24 @@ returns-then-z-len c =
       law = λ g a. tt;
     }
 
-pub returns-then-not-between : goal.returns-then-not-between
-returns-then-not-between c =
+pub returns-in-Some : goal.returns-in-Some
+returns-in-Some c =
     let t = c.args.terms.now in
     let z = c.args.z.now in
-    let f : SFits w64 (places z c.loop-j.j) = search rules in
-    let l = l_read t c.loop-j.j _ c.index.ensures (omega arith) in
-    let u = u_read t c.loop-j.j _ c.index-in-loop-j.ensures (omega arith) in
-    let no' = lies_is t z c.loop-j.j _ _ _ false l u (to_z-of_z w64 _ f) c.if-not-between.ensures in
     let long : length z ≡ vec_len t.c = omega arith in
-    let e = found_broken _ (lies t z) c.loop-j.j (vec_len t.c) (eq-eqb _ _ long) c.loop-j.invariant no' (omega arith) in
+    let e = found_is _ (lies t z) (vec_len t.c) _ (eq-eqb _ _ long) (first_lies t z _ _ _ long c.deref.ensures.value c.deref-2.ensures.value c.in-Some.ensures) in
     record {
       value = λ g a. e;
       law = λ g a. finds _ (lies t z) (BoundKept (problem_of g a t) (places z)) (bound_decides (problem_of g a t) (places z)) (vec_len t.c) _ e;
     }
 
-pub loop-j-preserved : goal.loop-j-preserved
-loop-j-preserved c =
-    let t = c.args.terms.now in
-    let z = c.args.z.now in
-    let f : SFits w64 (places z c.loop-j.j) = search rules in
-    let l = l_read t c.loop-j.j _ c.index.ensures (omega arith) in
-    let u = u_read t c.loop-j.j _ c.index-in-loop-j.ensures (omega arith) in
-    first_more (lies t z) c.loop-j.j c.loop-j.invariant (lies_is t z c.loop-j.j _ _ _ true l u (to_z-of_z w64 _ f) c.if-not-between.ensures)
-
-pub returns : goal.returns
-returns c =
+pub returns-in-None : goal.returns-in-None
+returns-in-None c =
     let t = c.args.terms.now in
     let z = c.args.z.now in
     let long : length z ≡ vec_len t.c = omega arith in
-    let e : c.loop-j.j ≡ vec_len t.c = omega arith in
-    let all = found_kept _ (lies t z) (vec_len t.c) (eq-eqb _ _ long) (ap (first_not (lies t z)) (sym e) ∙ c.loop-j.invariant) in
+    let e = found_is _ (lies t z) (vec_len t.c) _ (eq-eqb _ _ long) (first_lies t z _ _ _ long c.deref.ensures.value c.deref-2.ensures.value c.in-None.ensures) in
     record {
-      value = λ g a. all;
-      law = λ g a. finds _ (lies t z) (BoundKept (problem_of g a t) (places z)) (bound_decides (problem_of g a t) (places z)) (vec_len t.c) _ all;
+      value = λ g a. e;
+      law = λ g a. finds _ (lies t z) (BoundKept (problem_of g a t) (places z)) (bound_decides (problem_of g a t) (places z)) (vec_len t.c) _ e;
     }

@@ -1,4 +1,4 @@
-use Rattle.std.proofs.Common.{◌≡◌, ◌-◌, ◌≤◌}
+use Rattle.std.proofs.Common.{◌≡◌, ◌-◌}
 use Rattle.job.specs.Bounds.{InBounds}
 use Rattle.job.specs.Numbers.{problem_of}
 use Rattle.walk.specs.Running.{Tracks}
@@ -6,10 +6,6 @@ use Rattle.walk.specs.Walks.{walk_from}
 use Rattle.walk.proofs.Turns.{plus}
 use Rattle.walk.proofs.walks.descend.Given as goal
 
-abbrev pub invariant-loop-m : goal.invariant-loop-m
-invariant-loop-m l =
-    InBounds (problem_of l.job) l.z × Tracks l.job l.z l.room × (l.moves ≤ l.budget)
-    × (plus l.moves (walk_from (problem_of l.job) (l.budget - l.moves) l.z) ≡ walk_from (problem_of l.job) l.budget l.initial.z)
-
-abbrev pub decreases-loop-m : goal.decreases-loop-m
-decreases-loop-m l = l.budget - l.moves
+abbrev pub invariant-loop-moves : goal.invariant-loop-moves
+invariant-loop-moves l =
+    InBounds (problem_of l.job) l.z × Tracks l.job l.z l.room × (plus l.moves (walk_from (problem_of l.job) (l.budget - l.moves) l.z) ≡ walk_from (problem_of l.job) l.budget l.initial.z)

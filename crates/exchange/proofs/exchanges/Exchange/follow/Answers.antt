@@ -1,4 +1,4 @@
-use Rattle.std.proofs.Common.{◌≡◌, true, List, [], ◌∷◌, ◌++◌, is_ok, vec_items, sym, ◌∙◌, subst, arith}
+use Rattle.std.proofs.Common.{◌≡◌, List, [], ◌∷◌, ◌++◌, vec_items, sym, subst, arith}
 use Rattle.std.specs.List.{remove}
 use Rattle.exchange.specs.Members.{Fitting}
 use Rattle.exchange.specs.Breaches.{Apart}
@@ -15,14 +15,13 @@ invariant_of-self c =
     let w = c.in-Enter.member in
     let P : Choice → Type 0 = Follows e.ropes e.rows ms in
     let f = subst P c.in-Enter.is c.requires in
-    let t : is_ok c.push.result ≡ true = c.push.ensures.succeeds (omega (arith, f.0, e.room, e.members.ok.0)) in
-    let i : vec_items c.push.new.self ≡ ms ++ w ∷ [] = c.push.ensures.items ∙ rw t in
+    let i : vec_items c.push_reserved.new.self ≡ ms ++ w ∷ [] = c.push_reserved.ensures.items in
     let F : List Member → Type 0 = Fitting e.ropes e.rows in
     let A : List Member → Type 0 = Apart in
     record {
       small = e.small;
-      few = omega (arith, f.0, c.push.ensures.upper_bound, e.members.ok.0);
-      room = omega (arith, c.push.ensures.capacity, e.room);
+      few = omega (arith, f.0, c.push_reserved.ensures.len, e.members.ok.0);
+      room = omega (arith, c.push_reserved.ensures.capacity, e.room);
       fitting = subst F (sym i) (fitting_push e.ropes e.rows ms w e.fitting f.1);
       apart = subst A (sym i) (apart_push ms w e.apart f.2);
     }

@@ -10,7 +10,7 @@ use Rattle.exchange.proofs.rounded.Rounded.breach.Goals.{then-s-lower, else-s-lo
 
 pub returns : goal.returns
 returns c =
-    let P = problem_of c.args.self.now.job.now in
+    let P = problem_of c.args.self.now.set.job.now in
     let z = c.args.self.now.pulls.now in
     let v = c.args.limit in
     let fl : SFits w64 c.held_at-lower.result = search rules in

@@ -9,25 +9,25 @@ pub returns-then-self : goal.returns-then-self
 returns-then-self c =
     let f : SFits w64 c.worst-breach.result.ticks = search rules in
     let t : lt_z (pos 0) c.worst-breach.result.ticks ≡ true = rw (to_z-of_z w64 _ f) at c.if-breach-gt0.true in
-    chosen_enter (problem_of c.args.self.now.job.now) c.args.self.now.members.now c.args.self.now.pulls.now c.args.self.now.pressures.now c.worst-breach.result c.worst-breach.ensures t
+    chosen_enter (problem_of c.args.self.now.set.job.now) c.args.self.now.set.members.now c.args.self.now.pulls.now c.args.self.now.pressures.now c.worst-breach.result c.worst-breach.ensures t
     c.if-self.true
 
 pub returns-then-breach-gt0 : goal.returns-then-breach-gt0
 returns-then-breach-gt0 c =
     let f : SFits w64 c.worst-breach.result.ticks = search rules in
     let t : lt_z (pos 0) c.worst-breach.result.ticks ≡ true = rw (to_z-of_z w64 _ f) at c.if-breach-gt0.true in
-    chosen_full (problem_of c.args.self.now.job.now) c.args.self.now.members.now c.args.self.now.pulls.now c.args.self.now.pressures.now c.worst-breach.result c.worst-breach.ensures t c.if-self.false
+    chosen_full (problem_of c.args.self.now.set.job.now) c.args.self.now.set.members.now c.args.self.now.pulls.now c.args.self.now.pressures.now c.worst-breach.result c.worst-breach.ensures t c.if-self.false
 
 pub returns-then-wrong-gt0 : goal.returns-then-wrong-gt0
 returns-then-wrong-gt0 c =
     let f : SFits w64 c.worst-breach.result.ticks = search rules in
     let t : lt_z (pos 0) c.worst-breach.result.ticks ≡ false = rw (to_z-of_z w64 _ f) at c.if-breach-gt0.false in
-    chosen_leave (problem_of c.args.self.now.job.now) c.args.self.now.members.now c.args.self.now.pulls.now c.args.self.now.pressures.now c.worst-breach.result c.worst-breach.ensures
+    chosen_leave (problem_of c.args.self.now.set.job.now) c.args.self.now.set.members.now c.args.self.now.pulls.now c.args.self.now.pressures.now c.worst-breach.result c.worst-breach.ensures
     c.most_wrong-wrong.result c.most_wrong-wrong.ensures t c.if-wrong-gt0.true
 
 pub returns-else-wrong-gt0 : goal.returns-else-wrong-gt0
 returns-else-wrong-gt0 c =
     let f : SFits w64 c.worst-breach.result.ticks = search rules in
     let t : lt_z (pos 0) c.worst-breach.result.ticks ≡ false = rw (to_z-of_z w64 _ f) at c.if-breach-gt0.false in
-    chosen_done (problem_of c.args.self.now.job.now) c.args.self.now.members.now c.args.self.now.pulls.now c.args.self.now.pressures.now c.worst-breach.result c.worst-breach.ensures
+    chosen_done (problem_of c.args.self.now.set.job.now) c.args.self.now.set.members.now c.args.self.now.pulls.now c.args.self.now.pressures.now c.worst-breach.result c.worst-breach.ensures
     c.most_wrong-wrong.result c.most_wrong-wrong.ensures t c.if-wrong-gt0.false

@@ -14,7 +14,7 @@ make s k = record { size = s; place = k }
 
 pub loop-k-preserved-then-size-most : goal.loop-k-preserved-then-size-most
 loop-k-preserved-then-size-most c =
-    let ms = c.args.self.now.members.now in
+    let ms = c.args.self.now.set.members.now in
     let ys = c.args.self.now.pressures.now in
     let k = enumerate_count c.loop-k.k-iterator in
     let i = c.loop-k.invariant in
@@ -30,7 +30,7 @@ loop-k-preserved-then-size-most c =
 
 pub loop-k-preserved : goal.loop-k-preserved
 loop-k-preserved c =
-    let ms = c.args.self.now.members.now in
+    let ms = c.args.self.now.set.members.now in
     let ys = c.args.self.now.pressures.now in
     let k = enumerate_count c.loop-k.k-iterator in
     let i = c.loop-k.invariant in
@@ -46,7 +46,7 @@ loop-k-preserved c =
 pub returns : goal.returns
 unfolding most_wrong
 returns c =
-    let ms = c.args.self.now.members.now in
+    let ms = c.args.self.now.set.members.now in
     let ys = c.args.self.now.pressures.now in
     let k = enumerate_count c.loop-k.k-iterator in
     let i = c.loop-k.invariant in

@@ -8,7 +8,7 @@ use Rattle.exchange.proofs.rounded.Rounded.most_wrong.Given as goal
 -- the most wrong of those that have gone by, and which are left
 abbrev pub invariant-loop-k : goal.invariant-loop-k
 invariant-loop-k l =
-    (l.most ≡ upto (more_wrong l.self.members.now l.self.pressures.now) unwronged (enumerate_count l.k-iterator))
-    × (iter_rest (zip_first (enumerate_source l.k-iterator)) ≡ drop (enumerate_count l.k-iterator) l.self.members.now)
+    (l.most ≡ upto (more_wrong l.self.set.members.now l.self.pressures.now) unwronged (enumerate_count l.k-iterator))
+    × (iter_rest (zip_first (enumerate_source l.k-iterator)) ≡ drop (enumerate_count l.k-iterator) l.self.set.members.now)
     × (iter_rest (zip_second (enumerate_source l.k-iterator)) ≡ drop (enumerate_count l.k-iterator) l.self.pressures.now)
-    × (enumerate_count l.k-iterator ≤ length l.self.members.now)
+    × (enumerate_count l.k-iterator ≤ length l.self.set.members.now)

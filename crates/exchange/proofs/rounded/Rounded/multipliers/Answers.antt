@@ -8,8 +8,8 @@ use Rattle.exchange.proofs.rounded.Rounded.multipliers.Goals as goal
 
 pub returns : goal.returns
 returns c =
-    let j = c.args.self.now.job.now in
-    let ms = c.args.self.now.members.now in
+    let j = c.args.self.now.set.job.now in
+    let ms = c.args.self.now.set.members.now in
     let ys = c.args.self.now.pressures.now in
     let l = zeros_long (pos 0) 32 j.rows j.few in
     filled_is 32 j.rows c.fill_multipliers.new.multipliers (multipliers (problem_of j) ms ys)

@@ -6,4 +6,4 @@ use Rattle.exchange.proofs.rounded.Rounded.pressure_of.Given as goal
 
 -- the members that are left give the answer
 abbrev pub invariant-loop-member : goal.invariant-loop-member
-invariant-loop-member l = pressure_of (iter_rest (zip_first l.member-iterator)) (iter_rest (zip_second l.member-iterator)) l.limit ≡ pressure_of l.self.members.now l.self.pressures.now l.limit
+invariant-loop-member l = pressure_of (iter_rest (zip_first l.member-iterator)) (iter_rest (zip_second l.member-iterator)) l.limit ≡ pressure_of l.self.set.members.now l.self.pressures.now l.limit

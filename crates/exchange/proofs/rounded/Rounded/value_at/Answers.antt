@@ -1,33 +1,36 @@
-use Rattle.std.proofs.Common.{◌≡◌, true, ◌&&◌, ltb, pos, nat_abs, ap, ◌∙◌, subst, arith, w64, SFits, rules, lt-ltb}
+use Rattle.std.proofs.Common.{◌≡◌, true, ◌&&◌, ltb, nat_abs, ap, ◌∙◌, subst, arith, w64, SFits, rules, lt-ltb}
 use Rattle.std.proofs.lemmas.Int.{to_z-of_z}
 use Rattle.std.proofs.lemmas.Bool.{and_from}
-use Rattle.std.specs.Option.{unwrap_or}
 use Rattle.duality.specs.Lists.{places}
-use Rattle.duality.specs.Problem.{row_at}
 use Rattle.duality.specs.Tests.{many_within}
-use Rattle.job.specs.Numbers.{problem_of}
+use Rattle.job.proofs.Given.{given, given_is}
 use Rattle.job.proofs.Reading.{point_small}
 use Rattle.exchange.specs.Members.{Of}
 use Rattle.exchange.specs.declared.members.Limit.{Limit}
-use Rattle.exchange.proofs.Choosing.{answer_or, row_small}
+use Rattle.exchange.proofs.Choosing.{row_small}
 use Rattle.exchange.proofs.rounded.Rounded.value_at.Goals as goal
+
+pub unwrap-requires : goal.unwrap-requires
+unwrap-requires c =
+    let j = c.args.self.now.set.job.now in
+    let P : Limit → Type 0 = Of j.ropes j.rows in
+    given _ _ _ c.row_sum.ensures (and_from _ _ (lt-ltb _ _ (subst P c.in-Row.is c.requires)) c.args.self.now.point)
 
 pub returns-in-Row-clause-small : goal.returns-in-Row-clause-small
 returns-in-Row-clause-small c =
-    let j = c.args.self.now.job.now in
+    let j = c.args.self.now.set.job.now in
     let z = c.args.self.now.pulls.now in
     let i = c.in-Row.i in
     let P : Limit → Type 0 = Of j.ropes j.rows in
     let h = subst P c.in-Row.is c.requires in
-    let f : SFits w64 c.unwrap_or.result = search rules in
+    let f : SFits w64 c.unwrap.result = search rules in
     let b : (ltb i j.rows && many_within j.ropes 1073741824 z) ≡ true = and_from _ _ (lt-ltb _ _ h) c.args.self.now.point in
-    let o = answer_or _ (row_at (problem_of j) (places z) i) b in
-    let e = to_z-of_z w64 _ f ∙ c.unwrap_or.ensures ∙ ap (λ x. unwrap_or x (pos 0)) c.row_sum.ensures ∙ o in
+    let e = to_z-of_z w64 _ f ∙ given_is _ _ _ _ c.row_sum.ensures b c.unwrap.ensures in
     omega (arith, ap nat_abs e, row_small j z i c.args.self.now.point h)
 
 pub returns-in-Bound-clause-small : goal.returns-in-Bound-clause-small
 returns-in-Bound-clause-small c =
-    let j = c.args.self.now.job.now in
+    let j = c.args.self.now.set.job.now in
     let z = c.args.self.now.pulls.now in
     let f : SFits w64 (places z c.in-Bound.j) = search rules in
     omega (arith, ap nat_abs (to_z-of_z w64 _ f), point_small j.ropes 1073741824 z c.args.self.now.point c.in-Bound.j)

@@ -6,14 +6,14 @@ use Rattle.exchange.proofs.Choosing.{worse_held, worse_taken, worse_left}
 use Rattle.exchange.proofs.rounded.Rounded.worse.Goals as goal
 
 pub returns-then-holds : goal.returns-then-holds
-returns-then-holds c = worse_held (problem_of c.args.self.now.job.now) c.args.self.now.members.now c.args.self.now.pulls.now c.args.best c.args.limit (sym c.if-holds.ensures)
+returns-then-holds c = worse_held (problem_of c.args.self.now.set.job.now) c.args.self.now.set.members.now c.args.self.now.pulls.now c.args.best c.args.limit (sym c.if-holds.ensures)
 
 pub returns-then-other-best : goal.returns-then-other-best
 returns-then-other-best c =
     let fb : SFits w64 c.args.best.ticks = search rules in
     let fo : SFits w64 c.breach-other.result.ticks = search rules in
     let t : lt_z c.args.best.ticks c.breach-other.result.ticks ≡ true = rw (to_z-of_z w64 _ fb, to_z-of_z w64 _ fo) at c.if-other-best.true in
-    worse_taken (problem_of c.args.self.now.job.now) c.args.self.now.members.now c.args.self.now.pulls.now c.args.best c.args.limit c.breach-other.result
+    worse_taken (problem_of c.args.self.now.set.job.now) c.args.self.now.set.members.now c.args.self.now.pulls.now c.args.best c.args.limit c.breach-other.result
     (sym c.if-holds.ensures) c.breach-other.ensures t
 
 pub returns-else-other-best : goal.returns-else-other-best
@@ -21,5 +21,5 @@ returns-else-other-best c =
     let fb : SFits w64 c.args.best.ticks = search rules in
     let fo : SFits w64 c.breach-other.result.ticks = search rules in
     let t : lt_z c.args.best.ticks c.breach-other.result.ticks ≡ false = rw (to_z-of_z w64 _ fb, to_z-of_z w64 _ fo) at c.if-other-best.false in
-    worse_left (problem_of c.args.self.now.job.now) c.args.self.now.members.now c.args.self.now.pulls.now c.args.best c.args.limit c.breach-other.result
+    worse_left (problem_of c.args.self.now.set.job.now) c.args.self.now.set.members.now c.args.self.now.pulls.now c.args.best c.args.limit c.breach-other.result
     (sym c.if-holds.ensures) c.breach-other.ensures t

@@ -4,7 +4,7 @@ use Rattle.std.proofs.lemmas.Iterator.Search.{any_from_yields_List}
 use Rattle.exchange.specs.declared.members.Member.{Member}
 use Rattle.exchange.specs.Breaches.{same}
 use Rattle.exchange.proofs.Folds.{holds_any}
-use Rattle.exchange.proofs.rounded.Rounded.holds.Goals as goal
+use Rattle.exchange.proofs.working.WorkingSet.holds.Goals as goal
 
 pub returns : goal.returns
 returns c =
