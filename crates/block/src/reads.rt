@@ -17,7 +17,7 @@ impl Block {
     pub fn read(card: &[u8], number: u16) -> Option<Block>
         ensures { bytes_of result ≡ whole_at card.now number }
     {
-        let bytes = card.get(number as usize * 512..)?.first_chunk::<512>()?;
+        let bytes = card.get(number as usize * Block::BYTES..)?.first_chunk()?;
         Some(Block { bytes: *bytes })
     }
 

@@ -34,10 +34,12 @@ impl Block {
         ensures reads { numbers_of result.bytes (min 126 (length numbers.now)) ≡ take 126 numbers.now }
         ensures fits { Fit (take 126 numbers.now) }
     {
-        let mut block = Block { bytes: [0; 512] };
+        let mut block = Block {
+            bytes: [0; Block::BYTES],
+        };
         block.put(0, &[letter]);
         block.put(2, &number.to_le_bytes());
-        block.put_numbers(&numbers[..numbers.len().min(126)]);
+        block.put_numbers(&numbers[..numbers.len().min(Block::NUMBERS)]);
         block.put(510, &block.sum().to_le_bytes());
         block
     }

@@ -8,3 +8,4 @@ pub mod Solving
 pub mod Histories
 pub mod Honesty
 pub mod Runs
+pub mod Verdicts

@@ -1,5 +1,9 @@
 //! What a plan is asked to amend, and what it answers.
+ghost use Rattle.std.specs.Prelude.{Some};
+ghost use Rattle.calls.specs.Verdicts.{name_of};
+
 use exchange::End as ExchangeEnd;
+use std::fmt;
 use walk::End as WalkEnd;
 
 /// What becomes of a lawful offer. Neither is an error.
@@ -9,6 +13,17 @@ pub enum Verdict {
     Taken,
     /// What was held is no worse, and stays.
     Kept,
+}
+
+impl fmt::Display for Verdict {
+    ghost output = { λ v. Some (name_of v) };
+
+    fn fmt<W: fmt::Write>(&self, f: &mut fmt::Formatter<W>) -> fmt::Result {
+        f.write_str(match self {
+            Verdict::Taken => "taken",
+            Verdict::Kept => "kept",
+        })
+    }
 }
 
 /// New numbers for one row or one rope.

@@ -33,6 +33,10 @@ abbrev pub head_check : List ℕ → Verdict
 head_check card =
     and_then (sum_check (block_at card 0) 0) (and_then (name_check (block_at card 0) 72 0) (and_then (size_check card) (spare_check (block_at card 0) 0 2)))
 
+-- the same of a head as a block of its own
+abbrev pub first_check : List ℕ → Verdict
+first_check head = and_then (sum_check head 0) (and_then (name_check head 72 0) (and_then (size_check head) (spare_check head 0 2)))
+
 -- as many blocks as the sizes ask for
 abbrev pub full_check : ℕ → ℕ → ℕ → Verdict
 full_check len n m = cond (len == blocks_in n m * 512) (Ok tt) (Err (Length len))

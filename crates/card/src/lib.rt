@@ -4,6 +4,7 @@
 mod card_table;
 mod checks;
 mod contents;
+mod full;
 mod tables;
 mod tried;
 mod writes;

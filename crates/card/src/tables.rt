@@ -4,8 +4,8 @@ ghost use Rattle.card.specs.Faults.{n_of, m_of, card_check};
 ghost use Rattle.card.specs.Grids.{size_at, curvature_grid, rows_grid, grid_of, Holds};
 
 use crate::card_table::CardTable;
-use block::number_at;
-use section::spot_of;
+use block::{Block, number_at};
+use section::{blocks_for, spot_of};
 use table::{Table, cut_size, limit_number};
 
 /// A size in the head, 0 where the bytes end before it.
@@ -39,7 +39,7 @@ impl<'a> CardTable<'a> {
         let n = cut_size(ropes);
         CardTable {
             bytes: card,
-            first: (1 + (n * n).div_ceil(126)) as u16,
+            first: 1 + blocks_for((n * n) as u16),
             rows: size_at(card, 8),
             columns: ropes,
         }
@@ -62,7 +62,10 @@ impl<'a> Table for CardTable<'a> {
             return None;
         }
         let q = i * self.width() + j;
-        let number = number_at(self.bytes, self.first as usize * 512 + spot_of(q as u16))?;
+        let number = number_at(
+            self.bytes,
+            self.first as usize * Block::BYTES + spot_of(q as u16),
+        )?;
         limit_number(number as i64)
     }
 }

@@ -16,10 +16,10 @@ fn write_run(out: &mut [u8], letter: u8, first: u16, numbers: &[i32])
     ensures value { out.new ≡ run_into out.old letter first numbers.now (blocks_for (length numbers.now)) }
     ensures fits { Fit numbers.now }
 {
-    for (b, part) in numbers.chunks(126).enumerate() {
+    for (b, part) in numbers.chunks(Block::NUMBERS).enumerate() {
         let block = Block::make(letter, first + b as u16, part);
-        let at = (first as usize + b) * 512;
-        out[at..at + 512].copy_from_slice(block.bytes());
+        let at = (first as usize + b) * Block::BYTES;
+        out[at..at + Block::BYTES].copy_from_slice(block.bytes());
     }
 }
 

@@ -1,19 +1,9 @@
 use crate::lists::Lists;
 use crate::opening::check_opening;
-use crate::refusal::Refusal;
+use crate::refusal::{List, Refusal};
 use table::{Record, Triplets};
 
-fn told(checked: Result<(), Refusal>) -> (u8, usize, usize) {
-    match checked {
-        Ok(()) => (0, 0, 0),
-        Err(refusal) => {
-            let notice = refusal.notice();
-            (notice.number, notice.first, notice.second)
-        }
-    }
-}
-
-fn one_rope(slip: i64) -> (u8, usize, usize) {
+fn one_rope(slip: i64) -> Result<(), Refusal> {
     let records = [Record::new(0, 0, 3)];
     let g = Triplets::new(1, 1, &records);
     let a = Triplets::new(0, 7, &records);
@@ -29,15 +19,19 @@ fn one_rope(slip: i64) -> (u8, usize, usize) {
         hi: &none,
         slip: &slips,
     };
-    told(check_opening(&g, &a, &lists))
+    check_opening(&g, &a, &lists)
 }
 
 #[test]
 fn slip_at_its_edge(rt: HostRuntime) {
-    assert_eq!(rt; one_rope(1_773), (0, 0, 0));
-    assert_eq!(rt; one_rope(-1_773), (0, 0, 0));
-    assert_eq!(rt; one_rope(1_774), (15, 0, 0));
-    assert_eq!(rt; one_rope(131_073), (14, 5, 0));
+    let beyond = Refusal::Limit {
+        list: List::Slip,
+        index: 0,
+    };
+    assert_eq!(rt; one_rope(1_773), Ok(()));
+    assert_eq!(rt; one_rope(-1_773), Ok(()));
+    assert_eq!(rt; one_rope(1_774), Err(Refusal::Slip { row: 0 }));
+    assert_eq!(rt; one_rope(131_073), Err(beyond));
 }
 
 #[test]
@@ -58,5 +52,6 @@ fn asymmetry_before_lengths(rt: HostRuntime) {
         hi: &short,
         slip: &short,
     };
-    assert_eq!(rt; told(check_opening(&g, &a, &lists)), (12, 0, 1));
+    let crooked = Refusal::Asymmetric { row: 0, column: 1 };
+    assert_eq!(rt; check_opening(&g, &a, &lists), Err(crooked));
 }

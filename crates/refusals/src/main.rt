@@ -3,7 +3,7 @@
 #![tactic(auto)]
 
 use block::Block;
-use calls::{Amendment, Verdict};
+use calls::Amendment;
 use card::CardTable;
 use opening::{List, Lists, Refusal};
 use plan::Plan;
@@ -290,8 +290,7 @@ fn openings(rt: &HostRuntime, card: &[u8; BYTES]) -> io::Result<()> {
 
 fn answered(rt: &HostRuntime, name: &str, answer: &Answer) -> io::Result<()> {
     match answer {
-        Answer::Judged(Ok(Verdict::Taken)) => println!(rt; "{name}: taken"),
-        Answer::Judged(Ok(Verdict::Kept)) => println!(rt; "{name}: kept"),
+        Answer::Judged(Ok(verdict)) => println!(rt; "{name}: {verdict}"),
         Answer::Amended(Ok(_)) => println!(rt; "{name}: amended"),
         Answer::Solved(Ok(_)) => println!(rt; "{name}: solved"),
         Answer::Shown(Ok(_), _) => println!(rt; "{name}: shown"),

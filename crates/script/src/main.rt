@@ -1,7 +1,7 @@
 //! A script of calls on a small job, run through `session`. The stored output was written by hand from the rules.
 #![tactic(auto)]
 
-use calls::{Amendment, Dropped, Found, Report, Shown, Verdict};
+use calls::{Amendment, Dropped, Found, Report, Shown};
 use opening::Refusal;
 use session::{Answer, Call, Pair, session};
 use small_job::{CURVATURE, LISTS, ROW};
@@ -47,8 +47,7 @@ fn print_shown(rt: &HostRuntime, shown: &Shown, list: &[i64]) -> io::Result<()> 
 
 fn print_answer(rt: &HostRuntime, answer: &Answer) -> io::Result<()> {
     match answer {
-        Answer::Judged(Ok(Verdict::Taken)) => println!(rt; "taken"),
-        Answer::Judged(Ok(Verdict::Kept)) => println!(rt; "kept"),
+        Answer::Judged(Ok(verdict)) => println!(rt; "{verdict}"),
         Answer::Amended(Ok(dropped)) => print_dropped(rt, dropped),
         Answer::Solved(Ok(report)) => print_report(rt, report),
         Answer::Shown(Ok(shown), list) => print_shown(rt, shown, list.as_slice()),

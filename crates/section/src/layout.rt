@@ -3,6 +3,14 @@ ghost use Rattle.section.specs.Layout.{blocks_for, count_of, first_of, blocks_in
 
 use crate::kind::Kind;
 use crate::sizes::Sizes;
+use block::Block;
+
+/// The fewest blocks that hold `count` numbers.
+pub fn blocks_for(count: u16) -> u16
+    ensures { result ≡ blocks_for count }
+{
+    count.div_ceil(Block::NUMBERS as u16)
+}
 
 /// How many places a table of `rows` rows has.
 fn places(rows: u16, n: u16) -> u16
@@ -61,7 +69,7 @@ impl Sizes {
         ensures value { result ≡ blocks_for (count_of kind self.now.ropes self.now.rows) }
         ensures bound { result ≤ 5 }
     {
-        self.count(kind).div_ceil(126)
+        blocks_for(self.count(kind))
     }
 
     /// The number of a section's first block.
@@ -90,6 +98,6 @@ impl Sizes {
         ensures { result ≡ blocks_in self.now.ropes self.now.rows * 512 }
     {
         let blocks = self.first(Kind::Slip) + self.blocks(Kind::Slip);
-        blocks as usize * 512
+        blocks as usize * Block::BYTES
     }
 }

@@ -9,6 +9,7 @@ mod sections;
 mod sizes;
 
 pub use kind::Kind;
+pub use layout::blocks_for;
 pub use names::UnknownKind;
 pub use section::Section;
 pub use sections::spot_of;

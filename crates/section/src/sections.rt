@@ -14,7 +14,7 @@ pub fn spot_of(q: u16) -> usize
     ensures bound { result < 2 ^ 19 }
 {
     let q = q as usize;
-    q / 126 * 512 + 4 + q % 126 * 4
+    q / Block::NUMBERS * Block::BYTES + 4 + q % Block::NUMBERS * 4
 }
 
 /// The section that the letter of block `first` names, if the card has that block.
@@ -28,8 +28,8 @@ fn kind_at(card: &[u8], first: u16) -> Option<Kind>
 fn run_of(card: &[u8], first: u16, blocks: u16) -> &[u8]
     ensures { result.now ≡ run_at card.now first blocks }
 {
-    let from = card.len().min(first as usize * 512);
-    let to = card.len().min(from + blocks as usize * 512);
+    let from = card.len().min(first as usize * Block::BYTES);
+    let to = card.len().min(from + blocks as usize * Block::BYTES);
     &card[from..to]
 }
 

@@ -1,18 +1,15 @@
 -- How many numbers a section has, and the lists and the job that are read off a card.
-use Rattle.std.proofs.Common.{◌≡◌, ℕ, zero, suc, ◌+◌, ◌-◌, ◌*◌, ◌/◌, min, true, List, map, length, take, drop, ℤ, pos, Ok, vec_items, Option, unwrap_or, sym, refl, ap, ◌∙◌, arith}
+use Rattle.std.proofs.Common.{◌≡◌, ℕ, zero, suc, ◌+◌, ◌-◌, ◌/◌, min, true, List, map, length, get_or, take, drop, ℤ, pos, Ok, vec_items, sym, refl, ap, ◌∙◌, arith}
 use Rattle.std.specs.List.{range_with_len}
 use Rattle.std.proofs.lemmas.List.FromFn.{fill_by_all}
 use Rattle.std.proofs.lemmas.List.{length-append}
 use Rattle.block.specs.Blocks.{block_at, numbers_of}
-use Rattle.block.specs.Bytes.{number_at}
 use Rattle.block.specs.Checks.{Verdict}
 use Rattle.block.proofs.RoundTrip.{length_numbers}
 use Rattle.section.specs.declared.kind.Kind.{Kind}
 use Rattle.section.specs.declared.kind.Kind.TheVariants.{Costs, Bounds, Limits, Slip}
-use Rattle.section.specs.Layout.{blocks_for, count_of, first_of, blocks_in}
+use Rattle.section.specs.Layout.{blocks_for, count_of, first_of}
 use Rattle.section.specs.Numbers.{numbers_from, numbers_in}
-use Rattle.section.specs.Sections.{spot_of}
-use Rattle.section.proofs.Spots.{number_stands}
 use Rattle.table.specs.Grid.{Grid}
 use Rattle.card.specs.Faults.{n_of, m_of, card_check}
 use Rattle.card.specs.Grids.{curvature_grid, rows_grid}
@@ -37,13 +34,9 @@ module _ (card : List ℕ) where
   unfolding numbers_in
   length_in n m kind = length_from (first_of kind n m) (count_of kind n m) (blocks_for (count_of kind n m)) refl
 
-  pub section_read : (n m : ℕ) (kind : Kind) (start : ℕ) → length card ≡ blocks_in n m * 512 → start ≡ first_of kind n m * 512
-      → map (λ q. unwrap_or (number_at card (start + spot_of q)) (pos 0)) (range_with_len 0 (count_of kind n m)) ≡ numbers_in card n m kind
-  section_read n m kind start full e =
-      sym (fill_by_all (λ q. unwrap_or (number_at card (start + spot_of q)) (pos 0)) (numbers_in card n m kind) (count_of kind n m) (pos 0) (length_in n m kind)
-      (λ q h.
-      sym (ap (λ (s : ℕ). unwrap_or (number_at card (s + spot_of q)) (pos 0)) e
-      ∙ ap (λ (o : Option ℤ). unwrap_or o (pos 0)) (number_stands card n m kind q full h))))
+  pub section_whole : (n m : ℕ) (kind : Kind) → map (λ q. get_or (numbers_in card n m kind) q (pos 0)) (range_with_len 0 (count_of kind n m)) ≡ numbers_in card n m kind
+  section_whole n m kind =
+      sym (fill_by_all (λ q. get_or (numbers_in card n m kind) q (pos 0)) (numbers_in card n m kind) (count_of kind n m) (pos 0) (length_in n m kind) (λ q h. refl))
 
   -- the lists of a card, from its sections
   pub lists_read : (n m : ℕ) (x : CardLists) → vec_items x.costs ≡ numbers_in card n m Costs → vec_items x.bounds ≡ numbers_in card n m Bounds

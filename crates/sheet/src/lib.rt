@@ -5,6 +5,7 @@ mod card_job;
 mod loads;
 mod numbers;
 mod reads;
+mod sound_card;
 mod writes;
 
 pub use loads::load;

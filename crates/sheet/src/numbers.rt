@@ -39,22 +39,11 @@ pub(crate) fn table_numbers<T: Table>(
     Ok(numbers)
 }
 
-/// Adds the numbers of a list.
-fn push_numbers(numbers: &mut Vec<i32>, xs: &[i64]) -> Result<(), AllocError>
-    requires { Near 536870912 xs.now }
-    ensures { OnOk result (numbers.new.items ≡ numbers.old.items ++ xs.now) }
-{
-    numbers.extend(xs.iter().map(|x| *x as i32))
-}
-
 /// The numbers of two lists, one after the other.
 pub(crate) fn list_numbers(heap: Global, xs: &[i64], ys: &[i64]) -> Result<Vec<i32>, AllocError>
     requires first { Near 536870912 xs.now }
     requires second { Near 536870912 ys.now }
     ensures { IfOk result (λ v. v.items ≡ xs.now ++ ys.now) }
 {
-    let mut numbers = Vec::with_capacity(heap, xs.len() + ys.len())?;
-    push_numbers(&mut numbers, xs)?;
-    push_numbers(&mut numbers, ys)?;
-    Ok(numbers)
+    xs.iter().chain(ys).map(|x| *x as i32).collect(heap)
 }

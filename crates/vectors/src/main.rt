@@ -7,15 +7,16 @@
 //! One that begins with 2 is an exchange, written as a walk is, with steps in the place of moves.
 #![tactic(auto)]
 
+use anyhow::{Context, anyhow, ensure};
 use elimination::{LINE_PLACES, MOST_UNKNOWNS, Solution, nearest, solve};
 use exchange::{Exchange, Offer, Report, Step, end_after};
 use job::Job;
-use std::alloc::{AllocError, Global};
+use std::alloc::Global;
 use std::io;
 use std::io::{BufRead, BufReader};
 use std::num::nearest_i64_to_f64;
 use walk::{Walked, walk};
-use wire::bits;
+use wire::{bits, run};
 
 fn numbers(heap: Global, line: &str) -> anyhow::Result<Vec<i64>> {
     let mut numbers = Vec::new(heap);
@@ -32,19 +33,20 @@ struct Line<'a> {
 }
 
 impl<'a> Line<'a> {
-    /// The next number, or 0 where none is left.
-    fn number(&mut self) -> i64 {
-        self.left.split_off_first().copied().unwrap_or(0)
+    fn number(&mut self) -> anyhow::Result<i64> {
+        let next = self.left.split_off_first().copied();
+        next.ok_or_else(|| anyhow!("a line ends early"))
     }
 
-    fn size(&mut self) -> usize {
-        usize::try_from(self.number()).unwrap_or(0)
+    fn size(&mut self) -> anyhow::Result<usize> {
+        let size = usize::try_from(self.number()?);
+        size.context("a size is negative")
     }
 
-    fn list(&mut self, heap: Global, count: usize) -> Result<Vec<i64>, AllocError> {
-        let len = count.min(self.left.len());
-        let list = self.left.split_off(..len);
-        Vec::from_slice(heap, list.unwrap_or_default())
+    fn list(&mut self, heap: Global, count: usize) -> anyhow::Result<Vec<i64>> {
+        let list = run(&mut self.left, count);
+        ensure!(list.len() == count, "a line ends early");
+        Ok(Vec::from_slice(heap, list)?)
     }
 }
 
@@ -80,20 +82,19 @@ fn print_solution(rt: &HostRuntime, n: usize, solution: &Solution) -> io::Result
     println!(rt; "")
 }
 
-fn run_system(rt: &HostRuntime, line: &mut Line) -> io::Result<()> {
-    let n = line.size();
+fn run_system(rt: &HostRuntime, line: &mut Line) -> anyhow::Result<()> {
+    let n = line.size()?;
+    ensure!(n <= MOST_UNKNOWNS, "a system has {n} unknowns");
     let mut lines = [[0.0; LINE_PLACES]; MOST_UNKNOWNS];
-    if n <= 32 {
-        for row in lines.iter_mut().take(n) {
-            for x in row.iter_mut().take(n + 1) {
-                let m = line.number();
-                let e = line.number();
-                *x = scaled(m, e);
-            }
+    for row in lines.iter_mut().take(n) {
+        for x in row.iter_mut().take(n + 1) {
+            let m = line.number()?;
+            let e = line.number()?;
+            *x = scaled(m, e);
         }
     }
     let most = scaled(1, 60);
-    print_solution(rt, n, &solve(lines, n, most))
+    Ok(print_solution(rt, n, &solve(lines, n, most))?)
 }
 
 /// A job, the budget and the point that it starts from.
@@ -104,10 +105,10 @@ struct Case {
     point: Vec<i64>,
 }
 
-fn read_case(heap: Global, line: &mut Line) -> Result<Option<Case>, AllocError> {
-    let n = line.size();
-    let m = line.size();
-    let budget = line.size();
+fn read_case(heap: Global, line: &mut Line) -> anyhow::Result<Option<Case>> {
+    let n = line.size()?;
+    let m = line.size()?;
+    let budget = line.size()?;
     let g = line.list(heap, n.saturating_mul(n))?;
     let c = line.list(heap, n)?;
     let a = line.list(heap, n.saturating_mul(m))?;
@@ -119,12 +120,13 @@ fn read_case(heap: Global, line: &mut Line) -> Result<Option<Case>, AllocError> 
     Ok(Job::new(g, c, a, lo, hi, l, u).map(|job| Case { job, budget, point }))
 }
 
-fn run_walk(rt: &HostRuntime, heap: Global, mut case: Case) -> io::Result<()> {
-    let budget = u32::try_from(case.budget).unwrap_or(0);
+fn run_walk(rt: &HostRuntime, heap: Global, mut case: Case) -> anyhow::Result<()> {
+    let budget = u32::try_from(case.budget).context("too many moves")?;
     match walk(heap, &case.job, case.point.as_mut_slice(), budget) {
-        Ok(walked) => print_walk(rt, &walked, case.point.as_slice()),
-        Err(_) => println!(rt; "no walk"),
+        Ok(walked) => print_walk(rt, &walked, case.point.as_slice())?,
+        Err(_) => println!(rt; "no walk")?,
     }
+    Ok(())
 }
 
 fn print_report(rt: &HostRuntime, report: &Report) -> io::Result<()> {
@@ -183,20 +185,20 @@ impl From<i64> for Kind {
 }
 
 fn run_line(rt: &HostRuntime, heap: Global, line: &mut Line) -> anyhow::Result<()> {
-    let kind = Kind::from(line.number());
+    let kind = Kind::from(line.number()?);
     if kind == Kind::System {
-        return Ok(run_system(rt, line)?);
+        return run_system(rt, line);
     }
     let Some(case) = read_case(heap, line)? else {
         return Ok(println!(rt; "no job")?);
     };
     match kind {
-        Kind::Walk => Ok(run_walk(rt, heap, case)?),
+        Kind::Walk => run_walk(rt, heap, case),
         _ => run_exchange(rt, heap, &case),
     }
 }
 
-fn run(rt: &HostRuntime) -> anyhow::Result<()> {
+fn run_lines(rt: &HostRuntime) -> anyhow::Result<()> {
     let heap = rt.alloc();
     for text in BufReader::new(heap, rt.stdin())?.lines(heap) {
         let text = text?;
@@ -210,5 +212,5 @@ fn run(rt: &HostRuntime) -> anyhow::Result<()> {
 }
 
 fn main(rt: HostRuntime) -> anyhow::Result<()> {
-    run(&rt)
+    run_lines(&rt)
 }

@@ -13,14 +13,14 @@ pub fn word(input: &mut &[u8]) -> Option<u16>
     match *input {
         [low, high, rest @ ..] => {
             *input = rest;
-            Some(u16::from(*low) + 256 * u16::from(*high))
+            Some(u16::from_le_bytes([*low, *high]))
         }
         _ => None,
     }
 }
 
-/// The next `len` bytes, or those that are left.
-pub fn run<'a>(input: &mut &'a [u8], len: usize) -> &'a [u8]
+/// The next `len` bytes or numbers, or those that are left.
+pub fn run<'a, T>(input: &mut &'a [T], len: usize) -> &'a [T]
     ensures taken { result.now ≡ take len input.old.now }
     ensures left { input.new.now ≡ drop len input.old.now }
 {

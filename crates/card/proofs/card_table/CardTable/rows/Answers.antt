@@ -15,7 +15,7 @@ returns c =
     let ropes : to_z w64 (of_z w64 c.size_at-ropes.result) ≡ size_at card 4 = to_z-of_z w64 c.size_at-ropes.result fits-n ∙ c.size_at-ropes.ensures in
     let rows : to_z w64 (of_z w64 c.size_at.result) ≡ size_at card 8 = to_z-of_z w64 c.size_at.result fits-m ∙ c.size_at.ensures in
     let n : c.cut_size-n.result ≡ cut (size_at card 4) = c.cut_size-n.ensures ∙ ap cut ropes in
-    let blocks : c.div_ceil.result ≡ blocks_for (c.cut_size-n.result * c.cut_size-n.result) = search rules in
+    let blocks : c.blocks_for.result ≡ blocks_for (c.cut_size-n.result * c.cut_size-n.result) = c.blocks_for.ensures in
     record {
       meant = ap (λ (k : ℕ). section_grid card (1 + k) (to_z w64 (of_z w64 c.size_at.result)) (to_z w64 (of_z w64 c.size_at-ropes.result))) blocks
           ∙ (ap (λ (k : ℕ). section_grid card (1 + blocks_for (k * k)) (to_z w64 (of_z w64 c.size_at.result)) (to_z w64 (of_z w64 c.size_at-ropes.result))) n

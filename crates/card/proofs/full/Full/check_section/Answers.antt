@@ -1,16 +1,16 @@
 use Rattle.std.proofs.Common.{ap, ◌∙◌}
 use Rattle.section.specs.Layout.{blocks_for, first_of, count_of}
 use Rattle.card.specs.Faults.{section_check, run_check}
-use Rattle.card.proofs.checks.check_section.Goals as goal
+use Rattle.card.proofs.full.Full.check_section.Goals as goal
 
 pub returns : goal.returns
 unfolding section_check
 returns c =
-    let card = c.args.card.now in
-    let n = c.args.sizes.now.ropes in
-    let m = c.args.sizes.now.rows in
+    let card = c.args.self.now.card.now in
+    let n = c.args.self.now.sizes.ropes in
+    let m = c.args.self.now.sizes.rows in
     let kind = c.args.kind in
     c.check_run.ensures
-    ∙ (ap (λ f. run_check card c.letter.result f c.count.result (blocks_for c.count.result)) c.first.ensures.value
+    ∙ (ap (λ f. run_check card c.letter.result f c.count.result (blocks_for c.count.result)) c.first-first.ensures.value
     ∙ (ap (λ k. run_check card c.letter.result (first_of kind n m) k (blocks_for k)) c.count.ensures.value
     ∙ ap (λ l. run_check card l (first_of kind n m) (count_of kind n m) (blocks_for (count_of kind n m))) c.letter.ensures))
