@@ -3,7 +3,7 @@
 //!   target/both NAME=FILE..
 //!
 //! docs/BENCH.md has the commands that build it. Every text and the 64 bits of every smallest pivot must be the same, in each round. A time is the
-//! processor time of one round over all cards of a file, and the median of the rounds counts.
+//! processor time of one round over all cards of a file. Of times, and of the ratios of the two times in a round, the median counts.
 
 mod card;
 mod cards;
@@ -14,10 +14,9 @@ mod proved;
 mod walk;
 mod whole;
 
-use std::fmt::Write;
 use std::process::ExitCode;
 
-const ROUNDS: usize = 5;
+const ROUNDS: usize = 7;
 
 /// As C has it on Linux.
 #[repr(C)]
@@ -41,14 +40,15 @@ fn seconds() -> f64 {
     time.seconds as f64 + time.nanoseconds as f64 / 1e9
 }
 
-/// What was told of all cards: the texts in a row, and of each card where its text ends and the pivot, if it was solved.
-#[derive(Default, PartialEq)]
+/// What was told of all cards: the texts in a row, and of each card where its text ends and the pivot's bits, if its job was solved.
+#[derive(Default)]
 struct Told {
     text: Vec<u8>,
     each: Vec<(usize, Option<u64>)>,
 }
 
 impl Told {
+    /// Shows every card, and says how long that took.
     fn by(show: impl Fn(&[u8], &mut Vec<u8>) -> Option<u64>, cards: &[&[u8]]) -> (f64, Told) {
         let mut told = Told::default();
         let before = seconds();
@@ -59,6 +59,7 @@ impl Told {
         (seconds() - before, told)
     }
 
+    /// The first card of which the other tells something else.
     fn first_other(&self, other: &Told) -> Option<usize> {
         let mut start = 0;
         self.each.iter().zip(&other.each).position(|(a, b)| {
@@ -80,43 +81,48 @@ impl Told {
     }
 }
 
+/// The independent program's answer, in the form of the proved one's.
 fn other(card: &[u8], text: &mut Vec<u8>) -> Option<u64> {
-    let mut own = String::new();
-    let pivot = whole::show(card, &mut own).expect("a string takes all");
-    text.extend_from_slice(own.as_bytes());
-    pivot.map(f64::to_bits)
+    whole::show(card, text).expect("a list of bytes takes all").map(f64::to_bits)
 }
 
-fn median(mut times: Vec<f64>) -> f64 {
-    times.sort_by(f64::total_cmp);
-    times[times.len() / 2]
+struct Round {
+    ours: f64,
+    theirs: f64,
+    told: Told,
+}
+
+/// Runs both over all cards, if they agree.
+fn round(cards: &[&[u8]]) -> Result<Round, String> {
+    let (ours, told) = Told::by(proved::show, cards);
+    let (theirs, others) = Told::by(other, cards);
+    match told.first_other(&others) {
+        Some(at) => Err(format!("the two differ at card {at}")),
+        None => Ok(Round { ours, theirs, told }),
+    }
+}
+
+fn median(numbers: impl Iterator<Item = f64>) -> f64 {
+    let mut numbers: Vec<f64> = numbers.collect();
+    numbers.sort_by(f64::total_cmp);
+    numbers[numbers.len() / 2]
 }
 
 fn row(name: &str, cards: &[&[u8]]) -> Result<String, String> {
-    let (mut ours, mut theirs, mut line) = (Vec::new(), Vec::new(), String::new());
-    for round in 0..ROUNDS {
-        let (mine, told) = Told::by(proved::show, cards);
-        let (time, its) = Told::by(other, cards);
-        if told != its {
-            let at = told.first_other(&its);
-            return Err(format!("{name}: the two differ in round {round} at card {at:?}"));
-        }
-        ours.push(mine);
-        theirs.push(time);
-        if line.is_empty() {
-            let solved = told.solved();
-            write!(line, "| {name} | {solved} | {} | {} | {} |", cards.len() - solved, told.sum("exchange"), told.sum("moves"))
-                .map_err(|e| e.to_string())?;
-        }
-    }
-    let (ours, theirs) = (median(ours), median(theirs));
-    Ok(format!("{line} {ours:.3} | {theirs:.3} | {:.2} |", ours / theirs))
+    let rounds = (0..ROUNDS).map(|_| round(cards)).collect::<Result<Vec<_>, _>>()?;
+    let told = &rounds[0].told;
+    let (solved, steps, moves) = (told.solved(), told.sum("exchange"), told.sum("moves"));
+    let refused = cards.len() - solved;
+    let ours = median(rounds.iter().map(|r| r.ours));
+    let theirs = median(rounds.iter().map(|r| r.theirs));
+    let ratio = median(rounds.iter().map(|r| r.ours / r.theirs));
+    Ok(format!("| {name} | {solved} | {refused} | {steps} | {moves} | {ours:.3} | {theirs:.3} | {ratio:.2} |"))
 }
 
 fn compare(argument: &str) -> Result<String, String> {
     let (name, path) = argument.split_once('=').ok_or("NAME=FILE is wanted")?;
     let bytes = std::fs::read(path).map_err(|e| format!("{path}: {e}"))?;
-    row(name, &cards::of(&bytes).collect::<Vec<_>>())
+    row(name, &cards::of(&bytes).collect::<Vec<_>>()).map_err(|why| format!("{name}: {why}"))
 }
 
 fn main() -> ExitCode {

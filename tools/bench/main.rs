@@ -21,11 +21,11 @@ fn main() -> io::Result<()> {
     let mut bytes = Vec::new();
     io::stdin().lock().read_to_end(&mut bytes)?;
     let mut out = io::stdout().lock();
-    let mut text = String::new();
+    let mut text = Vec::new();
     for card in cards::of(&bytes) {
         text.clear();
-        let pivot = whole::show(card, &mut text).map_err(io::Error::other)?;
-        out.write_all(text.as_bytes())?;
+        let pivot = whole::show(card, &mut text)?;
+        out.write_all(&text)?;
         if let Some(pivot) = pivot {
             writeln!(out, "pivot {}", pivot.to_bits())?;
         }

@@ -1,6 +1,6 @@
 //! A whole job, from its card to the text that is shown: docs/SOLVE.md for the budgets, docs/TEXT.md for the text.
 
-use std::fmt::Write;
+use std::io::{self, Write};
 
 use crate::card::{read_card, Refusal};
 use crate::exchange::Ended;
@@ -15,7 +15,7 @@ fn solved(card: &[u8]) -> Result<(Plan, Report), Refusal> {
     Ok((plan, report))
 }
 
-fn sheet(plan: &Plan, report: &Report, text: &mut String) -> std::fmt::Result {
+fn sheet(plan: &Plan, report: &Report, text: &mut Vec<u8>) -> io::Result<()> {
     let exchange = match report.exchange {
         Ended::Done => "done",
         Ended::Full => "full",
@@ -38,7 +38,7 @@ fn sheet(plan: &Plan, report: &Report, text: &mut String) -> std::fmt::Result {
 }
 
 /// Adds the sheet of a card's job, or the card's refusal, to a text. Of a job that opens, the smallest pivot.
-pub fn show(card: &[u8], text: &mut String) -> Result<Option<f64>, std::fmt::Error> {
+pub fn show(card: &[u8], text: &mut Vec<u8>) -> io::Result<Option<f64>> {
     match solved(card) {
         Ok((plan, report)) => {
             sheet(&plan, &report, text)?;
