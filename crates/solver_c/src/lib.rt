@@ -1,6 +1,6 @@
 //! One function for programs in C and in Rust: solves the job of a card, and writes what its plan shows then, or why the card is refused.
 //!
-//! Beside C's `malloc` and `free`, by way of the kit's `liblibc_c.a`, it needs nothing of the program that links it.
+//! The library calls C's functions on memory alone: `malloc`, `realloc` and `free`, by way of the kit's `liblibc_c.a`, and those that copy and fill.
 #![tactic(auto)]
 
 ghost use Rattle.std.specs.Prelude.{◌≡◌, ◌≤◌, length, true, false};
