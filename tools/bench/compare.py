@@ -1,14 +1,11 @@
 #!/usr/bin/env python3
-"""The proved program `sheets` beside the program of tools/bench, over the same cards.
+"""The proved code of the static library `solver_c` beside the independent program of tools/bench, over the same cards.
 
   python3 tools/bench/compare.py [NAME..]     every set of cards, or those that are named
 
-docs/BENCH.md has the commands that build both. What they write must be the same, byte for byte. Each runs five times, in
-turns; a time is the processor time of the whole process, and the median counts. Seeds are fixed, so the cards can be made again."""
+docs/BENCH.md has the commands that build both. This makes the cards (fixed seeds, so they can be made again), and target/both runs them."""
 import os
 import random
-import resource
-import statistics
 import struct
 import subprocess
 import sys
@@ -19,9 +16,8 @@ sys.path.insert(0, os.path.dirname(HERE))
 import card as cards
 import sheets
 
-PROVED = os.path.join(ROOT, "crates/sheets/out/sheets")
 OTHER = os.path.join(ROOT, "target/bench")
-TIMES = 5
+BOTH = os.path.join(ROOT, "target/both")
 
 
 def packed(made):
@@ -109,36 +105,10 @@ def circles():
 SETS = [stored, small, large, walks, outside, exchanges, circles]
 
 
-def timed(program, path):
-    before = resource.getrusage(resource.RUSAGE_CHILDREN)
-    with open(path, "rb") as given:
-        text = subprocess.run([program], stdin=given, capture_output=True, check=True).stdout
-    after = resource.getrusage(resource.RUSAGE_CHILDREN)
-    return after.ru_utime + after.ru_stime - before.ru_utime - before.ru_stime, text
-
-
-def compare(name, path):
-    mine, others = [], []
-    for _ in range(TIMES):
-        seconds, text = timed(PROVED, path)
-        mine.append(seconds)
-        seconds, other = timed(OTHER, path)
-        others.append(seconds)
-        if text != other:
-            sys.exit(f"{name}: the two programs differ")
-    lines = text.split(b"\n")
-    solved = [line for line in lines if line.startswith(b"exchange ")]
-    steps = sum(int(line.split()[1]) for line in solved)
-    moves = sum(int(line.split()[1]) for line in lines if line.startswith(b"moves "))
-    refused = sum(line.startswith(b"refused ") for line in lines)
-    a, b = statistics.median(mine), statistics.median(others)
-    print(f"| {name} | {len(solved)} | {refused} | {steps} | {moves} | {a:.3f} | {b:.3f} | {a / b:.2f} |", flush=True)
-
-
 def main(names):
     folder = os.path.join(ROOT, "target/bench_cards")
     os.makedirs(folder, exist_ok=True)
-    print("| cards | solved | refused | steps | moves | proved, s | other, s | ratio |\n|---|---|---|---|---|---|---|---|", flush=True)
+    sets = []
     for make in SETS:
         name = make.__name__
         if names and name not in names:
@@ -147,7 +117,8 @@ def main(names):
         if not os.path.exists(path) or make is stored:
             with open(path, "wb") as file:
                 file.write(make())
-        compare(name, path)
+        sets.append(f"{name}={path}")
+    sys.exit(subprocess.run([BOTH, *sets]).returncode)
 
 
 if __name__ == "__main__":

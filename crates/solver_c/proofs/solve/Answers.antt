@@ -1,0 +1,13 @@
+use Rattle.card.specs.Grids.{grid_of}
+use Rattle.calls.specs.States.{State}
+use Rattle.plan.specs.View.{view}
+use Rattle.solver_c.proofs.Solving.{solved}
+use Rattle.solver_c.proofs.solve.Goals as goal
+
+pub returns : goal.returns
+returns c =
+    let s : State = view grid_of grid_of c.in_ok-plan.plan in
+    let t : State = view grid_of grid_of c.solve.new.self in
+    let e = c.in_ok-bytes.ensures in
+    solved c.args.card.now c.args.out.now c.print_plan.new.out s t c.in_ok-report.report c.in_ok-bytes.bytes c.bits.result c.in_ok-plan.ensures.answer
+    c.in_ok-report.ensures.value e.answer e.after c.bits.ensures
