@@ -1,9 +1,9 @@
 #!/usr/bin/env python3
-"""Hands the cards of whole jobs to the program `hang_solve` one by one, and compares what it prints and its status.
+"""Hands the cards of whole jobs to the program `hang` one by one, and compares what it prints and its status.
 
-  tools/each.py crates/hang_solve/out/hang_solve crates/sheets
+  tools/each.py crates/hang/out/hang crates/sheets
 
-`hang_solve` reads at most 7,681 bytes, so a longer card is to be refused as one of that length."""
+`hang` reads at most 7,681 bytes, so a longer card is to be refused as one of that length."""
 import os
 import struct
 import subprocess

@@ -1,241 +1,452 @@
-//! Cases tried by hand, run through public calls. The stored output was written by hand from the rules.
+//! What is refused, with its number, places and layer, and what just passes, through public calls.
+//! The stored output was written by hand from the rules.
 #![tactic(auto)]
 
-use anyhow::anyhow;
-use card::{CardTable, Contents, Numbers, Sizes, check_card};
-use evaluate::{Pair, Terms, Unmet, check_rows, cost, floor, refutes};
-use opening::{Lists, Refusal, check_opening};
-use small_job::LISTS;
+use block::Block;
+use calls::Amendment;
+use card::CardTable;
+use opening::{List, Lists, Refusal};
+use plan::Plan;
+use print::{print_plan, print_refusal};
+use session::{Answer, Call, Pair, session};
+use sheet::{load, write};
+use small_job::{CURVATURE, LISTS, ROW};
 use std::alloc::Global;
 use std::io;
-use table::{Flip, Record, Sum, Table, Triplets};
+use std::io::Write;
+use table::{Record, Table, Triplets};
 
-/// Prints a table's sizes and its places, row by row, a blank as `-`.
-fn print_table<T: Table>(rt: &HostRuntime, name: &str, table: &T) -> io::Result<()> {
-    let height = table.height();
-    let width = table.width();
-    println!(rt; "{name}: {height} by {width}")?;
-    // A table is asked by place, so its rows and columns are counted.
-    for i in 0..height.min(2) {
-        for j in 0..width.min(2) {
-            match table.place(i, j) {
-                Some(z) => print!(rt; " {z}")?,
-                None => print!(rt; " -")?,
-            }
+/// How many bytes the card of J has.
+const BYTES: usize = 3584;
+
+fn refused(rt: &HostRuntime, name: &str, refusal: Refusal) -> io::Result<()> {
+    let notice = refusal.notice();
+    println!(rt; "{name}: {notice} ({})", notice.layer)
+}
+
+/// The lists of J with another one in place of one of them.
+fn with(list: List, numbers: &[i64]) -> Lists {
+    let mut lists = LISTS;
+    match list {
+        List::Costs => lists.c = numbers,
+        List::LowerBounds => lists.l = numbers,
+        List::UpperBounds => lists.u = numbers,
+        List::LowerLimits => lists.lo = numbers,
+        List::UpperLimits => lists.hi = numbers,
+        List::Slip => lists.slip = numbers,
+    }
+    lists
+}
+
+/// Writes the card of J into a list.
+fn write_into(rt: &HostRuntime, name: &str, out: &mut [u8]) -> io::Result<()> {
+    let g = Triplets::new(2, 2, &CURVATURE);
+    let a = Triplets::new(1, 2, &ROW);
+    match write(rt.alloc(), &g, &a, &LISTS, out) {
+        Ok(bytes) => println!(rt; "{name}: {bytes} bytes"),
+        Err(refusal) => refused(rt, name, refusal),
+    }
+}
+
+fn check_sums(rt: &HostRuntime, card: &[u8]) -> io::Result<()> {
+    print!(rt; "check sums:")?;
+    // A card's blocks are read by number.
+    for number in 0..7 {
+        if let Some(block) = Block::read(card, number) {
+            print!(rt; " {}", block.sum())?;
         }
-        println!(rt; "")?;
+    }
+    println!(rt; "")
+}
+
+/// Writes J again from the tables on its card, and compares the bytes.
+fn write_again(rt: &HostRuntime, card: &[u8]) -> io::Result<()> {
+    let mut again = [0u8; BYTES];
+    let g = CardTable::curvature(card);
+    let a = CardTable::rows(card);
+    match write(rt.alloc(), &g, &a, &LISTS, &mut again) {
+        Ok(bytes) => {
+            let words = if &again[..] == card {
+                "the same"
+            } else {
+                "others"
+            };
+            println!(rt; "J written again from its card: {bytes} bytes, {words}")
+        }
+        Err(refusal) => refused(rt, "J written again from its card", refusal),
+    }
+}
+
+/// Loads a card with some bytes changed, each given by its place.
+fn load_with(
+    rt: &HostRuntime,
+    name: &str,
+    card: &[u8],
+    edits: &[(usize, u8)],
+) -> anyhow::Result<()> {
+    let mut bytes = Vec::from_slice(rt.alloc(), card)?;
+    for (at, byte) in edits {
+        if let Some(place) = bytes.get_mut(*at) {
+            *place = *byte;
+        }
+    }
+    match load(rt.alloc(), bytes.as_slice()) {
+        Ok(_) => println!(rt; "{name}: opens")?,
+        Err(refusal) => refused(rt, name, refusal)?,
     }
     Ok(())
 }
 
-fn print_product<T: Table>(rt: &HostRuntime, table: &T, row: usize, xs: &[i64]) -> io::Result<()> {
-    match table.product(row, xs) {
-        Some(z) => println!(rt; "product of row {row}: {z}"),
-        None => println!(rt; "product of row {row}: -"),
+/// One fault each. A byte that is set goes into the check sum, times its place from 1; J's head has 91, and blocks 1 and 6 have 118 and 94.
+fn card_faults(rt: &HostRuntime, card: &[u8; BYTES]) -> anyhow::Result<()> {
+    load_with(rt, "no bytes", &[], &[])?;
+    load_with(rt, "700 bytes", &card[0..700], &[])?;
+    load_with(rt, "a block too few", &card[0..3072], &[])?;
+    load_with(rt, "another number in block 2", card, &[(1028, 2)])?;
+    load_with(rt, "letter I in block 0", card, &[(0, 73), (510, 92)])?;
+    load_with(rt, "block 1 numbered 2", card, &[(514, 2), (1022, 121)])?;
+    load_with(rt, "17 ropes in the head", card, &[(4, 17), (510, 166)])?;
+    let edits = [(8, 33), (510, 123), (511, 1)];
+    load_with(rt, "33 rows in the head", card, &edits)?;
+    load_with(rt, "byte 1 of block 0", card, &[(1, 1), (510, 93)])?;
+    load_with(rt, "third number in block 0", card, &[(12, 1), (510, 104)])?;
+    let edits = [(3580, 1), (3582, 91), (3583, 2)];
+    load_with(rt, "byte 508 of block 6", card, &edits)?;
+    let edits = [(516, 1), (517, 16), (1022, 209)];
+    load_with(rt, "4097 in G of a card", card, &edits)
+}
+
+/// Two faults each.
+fn card_order(rt: &HostRuntime, card: &[u8; BYTES]) -> anyhow::Result<()> {
+    let short = &card[0..3072];
+    load_with(rt, "head's sum, 700 bytes", &card[0..700], &[(510, 90)])?;
+    load_with(rt, "head's sum, a block too few", short, &[(510, 90)])?;
+    let edits = [(0, 73), (4, 17), (510, 167)];
+    load_with(rt, "letter I and 17 ropes", card, &edits)?;
+    let edits = [(1, 1), (4, 17), (510, 168)];
+    load_with(rt, "17 ropes and byte 1", card, &edits)?;
+    load_with(rt, "byte 1, a block too few", short, &[(1, 1), (510, 93)])?;
+    let edits = [(513, 1), (1022, 120), (1028, 2)];
+    load_with(rt, "spare in block 1, sum of 2", card, &edits)
+}
+
+fn cards(rt: &HostRuntime, card: &mut [u8; BYTES]) -> anyhow::Result<()> {
+    write_into(rt, "J written", card)?;
+    check_sums(rt, card)?;
+    load_with(rt, "J from its card", card, &[])?;
+    write_again(rt, card)?;
+    write_into(rt, "J into 3583 bytes", &mut [0u8; 3583])?;
+    card_faults(rt, card)?;
+    card_order(rt, card)
+}
+
+fn open<G: Table + Drop, A: Table + Drop>(
+    rt: &HostRuntime,
+    name: &str,
+    g: G,
+    a: A,
+    lists: &Lists,
+) -> io::Result<()> {
+    match Plan::open(rt.alloc(), g, a, lists) {
+        Ok(_) => println!(rt; "{name}: opens"),
+        Err(refusal) => refused(rt, name, refusal),
     }
 }
 
-/// The two-rope job: G = (2, 0; 0, 2), c = (-4, -6), bounds 0 to 10, row (1, 1) from 0 to 3, slip 0.
-fn two_ropes(heap: Global) -> anyhow::Result<Contents> {
-    let sizes = Sizes::new(2, 1).ok_or_else(|| anyhow!("the two-rope job has other sizes"))?;
-    let numbers = Numbers {
-        curvature: Vec::from_slice(heap, &[2, 0, 0, 2])?,
-        rows: Vec::from_slice(heap, &[1, 1])?,
-        costs: Vec::from_slice(heap, &[-4, -6])?,
-        bounds: Vec::from_slice(heap, &[0, 0, 10, 10])?,
-        limits: Vec::from_slice(heap, &[0, 3])?,
-        slip: Vec::from_slice(heap, &[0, 0, 0, 0])?,
+/// So many ropes and no rows, with the lists of 16 ropes, all 0.
+fn open_ropes(rt: &HostRuntime, name: &str, n: i64) -> io::Result<()> {
+    let zeros = [0i64; 16];
+    let slip = [0i64; 256];
+    let lists = Lists {
+        c: &zeros,
+        l: &zeros,
+        u: &zeros,
+        lo: &[],
+        hi: &[],
+        slip: &slip,
     };
-    Contents::of(sizes, numbers).ok_or_else(|| anyhow!("the two-rope job has other counts"))
-}
-
-fn sizes(rt: &HostRuntime) -> io::Result<()> {
-    print_table(rt, "negative height", &Triplets::new(-1, 2, &[]))?;
-    print_table(rt, "sizes past 64", &Triplets::new(65, 1000, &[]))
-}
-
-fn blank_throughout(rt: &HostRuntime) -> io::Result<()> {
-    let records = [Record::new(0, 0, 1048577)];
-    print_table(rt, "blank throughout", &Triplets::new(1, 1, &records))
-}
-
-fn layers(rt: &HostRuntime, card: &[u8]) -> io::Result<()> {
-    let records = [
-        Record::new(0, 1, 5),
-        Record::new(1, 0, -7),
-        Record::new(0, 1, 9),
-        Record::new(2, 0, 4),
-        Record::new(-1, 0, 3),
-    ];
-    let triplets = Triplets::new(2, 3, &records);
-    print_table(rt, "records out of range", &triplets)?;
-    let sum = Sum {
-        left: triplets,
-        right: CardTable::curvature(card),
-    };
-    let flip = Flip { below: sum };
-    print_table(rt, "flip of a sum", &flip)?;
-    print_product(rt, &flip, 0, &[1, 2])?;
-    print_product(rt, &flip, 2, &[1, 2])?;
-    print_product(rt, &flip, 0, &[1, 1073741825])
-}
-
-fn card_tables(rt: &HostRuntime, card: &[u8]) -> io::Result<()> {
-    let rows = CardTable::rows(card);
-    print_table(rt, "section A", &rows)?;
-    let end = card.len().min(524);
-    let cut = CardTable::curvature(&card[0..end]);
-    print_table(rt, "a card cut off in G", &cut)
-}
-
-fn print_opening(rt: &HostRuntime, name: &str, opened: Result<(), Refusal>) -> io::Result<()> {
-    match opened {
-        Ok(()) => println!(rt; "{name}: opens"),
-        Err(refusal) => println!(rt; "{name}: {}", refusal.notice()),
-    }
-}
-
-/// Opens a job of `n` ropes and no rows, with these records of G and lists that are all 0.
-fn open_zeros(rt: &HostRuntime, name: &str, n: i64, records: &[Record]) -> anyhow::Result<()> {
-    let g = Triplets::new(n, n, records);
+    let g = Triplets::new(n, n, &[]);
     let a = Triplets::new(0, 0, &[]);
-    let ropes = g.height();
-    let list = vec![in rt.alloc(); 0i64; ropes]?;
-    let slip = vec![in rt.alloc(); 0i64; ropes.saturating_mul(ropes)]?;
+    open(rt, name, g, a, &lists)
+}
+
+/// Tables of these sizes, all 0, with the lists of J.
+fn open_sizes(rt: &HostRuntime, name: &str, g: (i64, i64), a: (i64, i64)) -> io::Result<()> {
+    let g = Triplets::new(g.0, g.1, &[]);
+    let a = Triplets::new(a.0, a.1, &[]);
+    open(rt, name, g, a, &LISTS)
+}
+
+/// Tables of the sizes of J's with these records, and the lists of J.
+fn open_records(rt: &HostRuntime, name: &str, g: &[Record], a: &[Record]) -> io::Result<()> {
+    let g = Triplets::new(2, 2, g);
+    let a = Triplets::new(1, 2, a);
+    open(rt, name, g, a, &LISTS)
+}
+
+fn table_sizes(rt: &HostRuntime) -> io::Result<()> {
+    open_ropes(rt, "16 ropes", 16)?;
+    open_ropes(rt, "17 ropes", 17)?;
+    open_ropes(rt, "no ropes", 0)?;
+    open_sizes(rt, "G 2 by 3", (2, 3), (1, 2))?;
+    open_sizes(rt, "A 1 by 3", (2, 2), (1, 3))?;
+    open_sizes(rt, "A 33 by 2", (2, 2), (33, 2))?;
+    open_sizes(rt, "G 2 by 3 and A 1 by 3", (2, 3), (1, 3))
+}
+
+fn table_places(rt: &HostRuntime) -> io::Result<()> {
+    let wild = [Record::new(1, 1, 4097)];
+    let crooked = [Record::new(1, 0, 1)];
+    let beyond = [Record::new(0, 1, 1025)];
+    open_records(rt, "4096 in G", &[Record::new(1, 1, 4096)], &[])?;
+    open_records(rt, "4097 in G", &wild, &[])?;
+    open_records(rt, "-1024 in A", &[], &[Record::new(0, 1, -1024)])?;
+    open_records(rt, "-1025 in A", &[], &[Record::new(0, 1, -1025)])?;
+    open_records(rt, "blank in A", &[], &[Record::new(0, 0, 1048577)])?;
+    open_records(rt, "G differs across its diagonal", &crooked, &[])?;
+    open_records(rt, "4097 in G and 1025 in A", &wild, &beyond)?;
+    open_records(rt, "1025 in A and G not symmetric", &crooked, &beyond)
+}
+
+/// A card that ends after its head gives sizes, and no place of its tables.
+fn blank_tables(rt: &HostRuntime, card: &[u8; BYTES]) -> io::Result<()> {
+    let one = Triplets::new(1, 2, &[]);
+    let g = CardTable::curvature(&card[0..512]);
+    open(rt, "G blank throughout", g, one, &LISTS)?;
+    let many = Triplets::new(33, 2, &[]);
+    let g = CardTable::curvature(&card[0..512]);
+    open(rt, "G blank throughout and A 33 by 2", g, many, &LISTS)
+}
+
+/// Tables of 2 on the diagonal of G, and J's lists but for one or two.
+fn open_lists(rt: &HostRuntime, name: &str, lists: Lists) -> io::Result<()> {
+    let g = Triplets::new(2, 2, &CURVATURE);
+    let a = Triplets::new(1, 2, &ROW);
+    open(rt, name, g, a, &lists)
+}
+
+fn open_with(rt: &HostRuntime, name: &str, list: List, numbers: &[i64]) -> io::Result<()> {
+    open_lists(rt, name, with(list, numbers))
+}
+
+fn list_lengths(rt: &HostRuntime) -> io::Result<()> {
+    open_with(rt, "3 linear costs", List::Costs, &[0, 0, 0])?;
+    open_with(rt, "1 lower bound", List::LowerBounds, &[0])?;
+    open_with(rt, "3 upper bounds", List::UpperBounds, &[9, 9, 9])?;
+    open_with(rt, "no lower limit", List::LowerLimits, &[])?;
+    open_with(rt, "2 upper limits", List::UpperLimits, &[9, 9])?;
+    open_with(rt, "slip of 3 numbers", List::Slip, &[0, 0, 0])
+}
+
+/// 1,448² is at most 2 · 1,048,576, and 1,449² is not.
+fn list_numbers(rt: &HostRuntime) -> io::Result<()> {
+    open_with(rt, "cost 268435456", List::Costs, &[0, 268435456])?;
+    open_with(rt, "cost 268435457", List::Costs, &[0, 268435457])?;
+    open_with(rt, "lower bound -32769", List::LowerBounds, &[-32769, 0])?;
+    open_with(rt, "upper bound 32769", List::UpperBounds, &[9, 32769])?;
+    open_with(rt, "limit -536870913", List::LowerLimits, &[-536870913])?;
+    open_with(rt, "limit 536870913", List::UpperLimits, &[536870913])?;
+    open_with(rt, "131073 in the slip", List::Slip, &[0, 0, 0, 131073])?;
+    open_with(rt, "bounds crossed", List::LowerBounds, &[0, 11])?;
+    open_with(rt, "limits crossed", List::LowerLimits, &[4])?;
+    open_with(rt, "slip 1448", List::Slip, &[0, 0, 0, 1448])?;
+    open_with(rt, "slip 1449", List::Slip, &[0, 0, 0, 1449])
+}
+
+fn list_order(rt: &HostRuntime) -> io::Result<()> {
+    let crooked = [Record::new(1, 0, 1)];
+    let g = Triplets::new(2, 2, &crooked);
+    let a = Triplets::new(1, 2, &[]);
+    let lists = with(List::Costs, &[0, 0, 0]);
+    open(rt, "G not symmetric and 3 costs", g, a, &lists)?;
     let lists = Lists {
-        c: list.as_slice(),
-        l: list.as_slice(),
-        u: list.as_slice(),
-        lo: &[],
-        hi: &[],
-        slip: slip.as_slice(),
+        c: &[0, 268435457],
+        u: &[10],
+        ..LISTS
     };
-    print_opening(rt, name, check_opening(&g, &a, &lists))?;
-    Ok(())
+    open_lists(rt, "cost 268435457 and 1 upper bound", lists)?;
+    let lists = Lists {
+        slip: &[131073, 0, 0, 0],
+        l: &[11, 0],
+        ..LISTS
+    };
+    open_lists(rt, "131073 in the slip and bounds crossed", lists)?;
+    let lists = Lists {
+        slip: &[0, 0, 0, 1449],
+        lo: &[4],
+        ..LISTS
+    };
+    open_lists(rt, "slip 1449 and limits crossed", lists)
 }
 
-fn open_sizes(rt: &HostRuntime) -> anyhow::Result<()> {
-    open_zeros(rt, "16 ropes", 16, &[])?;
-    open_zeros(rt, "17 ropes", 17, &[])?;
-    open_zeros(rt, "4096 in G", 1, &[Record::new(0, 0, 4096)])?;
-    open_zeros(rt, "4097 in G", 1, &[Record::new(0, 0, 4097)])
+fn openings(rt: &HostRuntime, card: &[u8; BYTES]) -> io::Result<()> {
+    table_sizes(rt)?;
+    table_places(rt)?;
+    blank_tables(rt, card)?;
+    list_lengths(rt)?;
+    list_numbers(rt)?;
+    list_order(rt)
 }
 
-/// G = (1, 2; 2, 4), which no slip of zeros shows to be convex.
-fn open_flat(rt: &HostRuntime, name: &str, slip: &[i64]) -> io::Result<()> {
-    let records = [
+fn answered(rt: &HostRuntime, name: &str, answer: &Answer) -> io::Result<()> {
+    match answer {
+        Answer::Judged(Ok(verdict)) => println!(rt; "{name}: {verdict}"),
+        Answer::Amended(Ok(_)) => println!(rt; "{name}: amended"),
+        Answer::Solved(Ok(_)) => println!(rt; "{name}: solved"),
+        Answer::Shown(Ok(_), _) => println!(rt; "{name}: shown"),
+        Answer::Judged(Err(refusal))
+        | Answer::Amended(Err(refusal))
+        | Answer::Solved(Err(refusal))
+        | Answer::Shown(Err(refusal), _) => refused(rt, name, *refusal),
+    }
+}
+
+/// Makes one call on a new plan of two ropes and three rows: J with the rows (1, 1) from 0 to 5, (1, -1) from -3 to 2 and (0, 1) from 0 to 2.
+fn ask(rt: &HostRuntime, name: &str, call: Call) -> io::Result<()> {
+    let ones = [
         Record::new(0, 0, 1),
-        Record::new(0, 1, 2),
-        Record::new(1, 0, 2),
-        Record::new(1, 1, 4),
+        Record::new(0, 1, 1),
+        Record::new(1, 0, 1),
+        Record::new(1, 1, -1),
+        Record::new(2, 1, 1),
     ];
-    let g = Triplets::new(2, 2, &records);
-    let a = Triplets::new(0, 7, &[]);
+    let g = Triplets::new(2, 2, &CURVATURE);
+    let a = Triplets::new(3, 2, &ones);
     let lists = Lists {
-        c: &[0, 0],
-        l: &[0, 0],
-        u: &[0, 0],
-        lo: &[],
-        hi: &[],
-        slip,
+        lo: &[0, -3, 0],
+        hi: &[5, 2, 2],
+        ..LISTS
     };
-    print_opening(rt, name, check_opening(&g, &a, &lists))
-}
-
-/// The terms of the two-rope job with other limits of its row.
-fn two_rope_terms(heap: Global, lo: i64, hi: i64) -> anyhow::Result<Terms> {
-    let c = Vec::from_slice(heap, LISTS.c)?;
-    let l = Vec::from_slice(heap, LISTS.l)?;
-    let u = Vec::from_slice(heap, LISTS.u)?;
-    let low = Vec::from_slice(heap, &[lo])?;
-    let high = Vec::from_slice(heap, &[hi])?;
-    Terms::new(c, l, u, low, high).ok_or_else(|| anyhow!("the two-rope job has other terms"))
-}
-
-fn print_floor(rt: &HostRuntime, card: &[u8], terms: &Terms, pair: Pair) -> io::Result<()> {
-    let g = CardTable::curvature(card);
-    let a = CardTable::rows(card);
-    match floor(&g, &a, terms, pair) {
-        Some(v) => println!(rt; "floor {v}"),
-        None => println!(rt; "no pair"),
+    match session(rt.alloc(), g, a, &lists, &[call]) {
+        Ok(answers) => {
+            for answer in answers.as_slice() {
+                answered(rt, name, answer)?;
+            }
+            Ok(())
+        }
+        Err(refusal) => refused(rt, name, refusal),
     }
 }
 
-fn print_refutes(rt: &HostRuntime, card: &[u8], terms: &Terms) -> io::Result<()> {
-    let a = CardTable::rows(card);
-    match refutes(&a, terms, &[1]) {
-        Some(true) => println!(rt; "1 refutes"),
-        Some(false) => println!(rt; "1 does not refute"),
-        None => println!(rt; "no multipliers"),
+fn points(rt: &HostRuntime) -> io::Result<()> {
+    ask(rt, "point 1 2", Call::Point(&[1, 2]))?;
+    ask(rt, "point of 3 numbers", Call::Point(&[0, 0, 0]))?;
+    ask(rt, "32769 in a point", Call::Point(&[0, 32769]))?;
+    ask(rt, "point below rope 0", Call::Point(&[-1, 2]))?;
+    ask(rt, "point above rope 1", Call::Point(&[1, 11]))?;
+    ask(rt, "point above row 0", Call::Point(&[4, 2]))?;
+    ask(rt, "point above row 1", Call::Point(&[3, 0]))?;
+    ask(rt, "point above row 2", Call::Point(&[2, 3]))?;
+    ask(rt, "wrong length and 32769", Call::Point(&[32769, 0, 0]))?;
+    ask(rt, "above rope 0 and 32769", Call::Point(&[11, 32769]))?;
+    ask(rt, "above rope 1 and above row 0", Call::Point(&[0, 11]))?;
+    ask(rt, "below row 1 and above row 2", Call::Point(&[0, 4]))
+}
+
+fn pair<'a>(point: &'a [i64], multipliers: &'a [i64]) -> Call<'a> {
+    Call::Floor(Pair { point, multipliers })
+}
+
+fn pairs(rt: &HostRuntime) -> io::Result<()> {
+    ask(rt, "pair outside the bounds", pair(&[11, 11], &[0, 0, 0]))?;
+    ask(rt, "pair with 3 ropes", pair(&[0, 0, 0], &[0, 0, 0]))?;
+    ask(rt, "pair with 2 multipliers", pair(&[0, 0], &[0, 0]))?;
+    ask(rt, "-32769 in a pair", pair(&[0, -32769], &[0, 0, 0]))?;
+    ask(rt, "multiplier 16777217", pair(&[0, 0], &[0, 0, 16777217]))?;
+    ask(rt, "1 rope and 2 multipliers", pair(&[0], &[0, 0]))?;
+    ask(rt, "2 multipliers and 32769", pair(&[32769, 0], &[0, 0]))?;
+    ask(rt, "both beyond", pair(&[0, -32769], &[16777217, 0, 0]))
+}
+
+fn proofs(rt: &HostRuntime) -> io::Result<()> {
+    ask(rt, "proof of 2 multipliers", Call::Proof(&[1, 1]))?;
+    ask(rt, "-16777217 in a proof", Call::Proof(&[0, -16777217, 0]))?;
+    ask(rt, "proof of nothing", Call::Proof(&[1, 0, 0]))?;
+    ask(rt, "2 multipliers, one beyond", Call::Proof(&[16777217, 0]))
+}
+
+fn solve(steps: u64, moves: u64) -> Call<'static> {
+    Call::Solve { steps, moves }
+}
+
+fn solves_and_shows(rt: &HostRuntime) -> io::Result<()> {
+    ask(rt, "1001 steps", solve(1001, 0))?;
+    ask(rt, "1000001 moves", solve(0, 1000001))?;
+    ask(rt, "1001 steps and 1000001 moves", solve(1001, 1000001))?;
+    ask(rt, "1000 steps and 1000000 moves", solve(1000, 1000000))?;
+    ask(rt, "show into 1 number", Call::Show(&[0]))?;
+    ask(rt, "show into 3 numbers", Call::Show(&[0, 0, 0]))?;
+    ask(rt, "show into 2 numbers", Call::Show(&[0, 0]))
+}
+
+fn row(index: usize, lo: i64, hi: i64) -> Call<'static> {
+    Call::Amend(Amendment::Row { index, lo, hi })
+}
+
+fn rope(index: usize, l: i64, u: i64) -> Call<'static> {
+    Call::Amend(Amendment::Rope { index, l, u })
+}
+
+fn linear_cost(index: usize, c: i64) -> Call<'static> {
+    Call::Amend(Amendment::Cost { index, c })
+}
+
+fn amendments(rt: &HostRuntime) -> io::Result<()> {
+    ask(rt, "row 3", row(3, 0, 1))?;
+    ask(rt, "bounds of rope 2", rope(2, 0, 1))?;
+    ask(rt, "cost of rope 2", linear_cost(2, 0))?;
+    ask(rt, "row 2 at its limits", row(2, -536870912, 536870912))?;
+    ask(rt, "row 2 beyond its limit", row(2, -536870913, 0))?;
+    ask(rt, "row 1 from 5 to 4", row(1, 5, 4))?;
+    ask(rt, "rope 1 up to 32769", rope(1, 0, 32769))?;
+    ask(rt, "rope 1 from 1 to 0", rope(1, 1, 0))?;
+    ask(rt, "rope 1 costs 268435457", linear_cost(1, 268435457))?;
+    ask(rt, "row 3 from 5 to 4", row(3, 5, 4))?;
+    ask(rt, "rope 2 up to 32769", rope(2, 0, 32769))
+}
+
+/// The sheet of J after a solve without steps or moves, which offers the lower bounds.
+fn sheet_of(heap: Global, card: &[u8], text: &mut [u8]) -> Result<usize, Refusal> {
+    let mut plan = load(heap, card)?;
+    let report = plan.solve(heap, 0, 0)?;
+    print_plan(&plan, &report, text)
+}
+
+fn printed(
+    rt: &HostRuntime,
+    name: &str,
+    answer: Result<usize, Refusal>,
+    text: &[u8],
+) -> io::Result<()> {
+    match answer {
+        Ok(len) => {
+            println!(rt; "{name}: {len} bytes")?;
+            rt.stdout().write_all(&text[0..len.min(text.len())])
+        }
+        Err(refusal) => refused(rt, name, refusal),
     }
 }
 
-fn print_point(rt: &HostRuntime, card: &[u8], terms: &Terms, z: &[i64]) -> io::Result<()> {
-    let g = CardTable::curvature(card);
-    let a = CardTable::rows(card);
-    match check_rows(&a, terms, z) {
-        Ok(()) => print!(rt; "rows kept")?,
-        Err(Unmet::At(i)) => print!(rt; "row {i} broken")?,
-        Err(Unmet::NoPoint) => print!(rt; "no point")?,
-    }
-    match cost(&g, terms, z) {
-        Some(q) => println!(rt; ", cost {q}"),
-        None => println!(rt; ", no cost"),
-    }
-}
-
-/// The two-rope job: what its points cost, what its pairs show, and what refutes it once its row is amended.
-fn evaluations(rt: &HostRuntime, card: &[u8]) -> anyhow::Result<()> {
-    let heap = rt.alloc();
-    let zeros = Pair {
-        point: &[0, 0],
-        multipliers: &[0],
-    };
-    let best = Pair {
-        point: &[1, 2],
-        multipliers: &[-512],
-    };
-    let terms = two_rope_terms(heap, 0, 3)?;
-    print_floor(rt, card, &terms, zeros)?;
-    print_point(rt, card, &terms, &[1, 2])?;
-    print_point(rt, card, &terms, &[2, 2])?;
-    print_floor(rt, card, &terms, best)?;
-    print_floor(rt, card, &two_rope_terms(heap, 0, 2)?, best)?;
-    print_refutes(rt, card, &two_rope_terms(heap, 21, 30)?)?;
-    print_refutes(rt, card, &two_rope_terms(heap, 20, 30)?)?;
-    Ok(())
-}
-
-/// What is said of so many bytes that are all 0.
-fn zero_bytes(rt: &HostRuntime, len: usize) -> anyhow::Result<()> {
-    let bytes = vec![in rt.alloc(); 0u8; len]?;
-    match check_card(bytes.as_slice()) {
-        Ok(_) => println!(rt; "a card")?,
-        Err(fault) => println!(rt; "{fault}")?,
-    }
-    Ok(())
+fn print_into(rt: &HostRuntime, card: &[u8], text: &mut [u8]) -> io::Result<()> {
+    let len = text.len();
+    println!(rt; "print into {len} bytes")?;
+    let answer = sheet_of(rt.alloc(), card, text);
+    printed(rt, "sheet", answer, text)?;
+    let answer = print_refusal(&Refusal::Bound { rope: 1 }, text);
+    printed(rt, "refusal", answer, text)
 }
 
 fn run(rt: &HostRuntime) -> anyhow::Result<()> {
-    let contents = two_ropes(rt.alloc())?;
-    let mut out = vec![in rt.alloc(); 255u8; 3585]?;
-    if let Err(fault) = contents.write(&mut out.as_mut_slice()[0..3583]) {
-        println!(rt; "{fault}")?;
-    }
-    match contents.write(out.as_mut_slice()) {
-        Ok(len) => println!(rt; "written {len}, then {}", out[3584])?,
-        Err(fault) => println!(rt; "{fault}")?,
-    }
-    zero_bytes(rt, 700)?;
-    zero_bytes(rt, 512)?;
-    sizes(rt)?;
-    blank_throughout(rt)?;
-    layers(rt, out.as_slice())?;
-    card_tables(rt, out.as_slice())?;
-    open_sizes(rt)?;
-    open_flat(rt, "slip 0", &[0, 0, 0, 0])?;
-    open_flat(rt, "slip 1024 2048", &[1024, 2048, 0, 0])?;
-    evaluations(rt, out.as_slice())?;
+    let mut card = [0u8; BYTES];
+    cards(rt, &mut card)?;
+    openings(rt, &card)?;
+    points(rt)?;
+    pairs(rt)?;
+    proofs(rt)?;
+    solves_and_shows(rt)?;
+    amendments(rt)?;
+    print_into(rt, &card, &mut [0u8; 319])?;
+    print_into(rt, &card, &mut [0u8; 320])?;
     Ok(())
 }
 

@@ -1,70 +1,49 @@
-//! Reads a job card on standard input and says what it holds, or why it is refused.
+//! Reads a job card on standard input, solves its job and prints what the plan shows then, or why the card is refused.
 #![tactic(auto)]
 
+ghost use Rattle.std.specs.Prelude.{◌≤◌, length, IfOk};
+ghost use Rattle.hang.specs.Solved.{Solved};
+
 use anyhow::anyhow;
-use card::{CardTable, Kind, Section, Sizes, check_card};
-use std::alloc::{AllocError, Global};
-use std::io;
-use std::io::Read;
-use table::Table;
+use lines::ROOM;
+use opening::Refusal;
+use print::{print_plan, print_refusal};
+use sheet::load;
+use std::alloc::Global;
+use std::io::{Read, Write};
 
 /// One byte more than the longest card, so that a longer one is seen to be too long.
 const MOST: u64 = 7681;
 
-/// Prints the sizes of a card, and of each section its letter, its first block and how many numbers it has.
-fn print_sections(rt: &HostRuntime, card: &[u8], sizes: &Sizes) -> io::Result<()> {
-    println!(rt; "ropes {} rows {}", sizes.ropes(), sizes.rows())?;
-    let mut first: u16 = 0;
-    // Where the next section begins comes of the length of this one.
-    for _ in 0..7 {
-        let Some(section) = Section::at(card, first, sizes) else {
-            break;
-        };
-        let letter = char::from(section.kind().letter());
-        let count = sizes.count(section.kind());
-        println!(rt; "{letter} {first} {count}")?;
-        first = first.saturating_add((section.bytes().len() / 512).min(15) as u16);
-    }
-    Ok(())
-}
+/// Steps of the exchange.
+const STEPS: u64 = 1_000;
 
-/// The lower bounds of the ropes, as the card's section B has them.
-fn lower_bounds(heap: Global, card: &[u8], sizes: &Sizes) -> Result<Vec<i64>, AllocError> {
-    let Some(section) = Section::at(card, sizes.first(Kind::Bounds), sizes) else {
-        return Ok(Vec::new(heap));
-    };
-    (0..sizes.ropes())
-        .filter_map(|j| section.value(j).map(i64::from))
-        .collect(heap)
-}
+/// Moves of the walk.
+const MOVES: u64 = 100_000;
 
-/// Prints the sum of each row at the lower bounds, or `blank` where the card has no such sum.
-fn print_sums(rt: &HostRuntime, card: &[u8], lower: &[i64]) -> io::Result<()> {
-    let table = CardTable::rows(card);
-    // A table is asked for its rows by number.
-    for i in 0..table.height() {
-        match table.product(i, lower) {
-            Some(sum) => println!(rt; "row {i} sum {sum}")?,
-            None => println!(rt; "row {i} blank")?,
-        }
-    }
-    Ok(())
+/// Solves the job of a card, and writes what the plan shows then into a list of bytes.
+fn solve_card(heap: Global, card: &[u8], out: &mut [u8]) -> Result<usize, Refusal>
+    ensures value { Solved card.now out.old out.new result }
+    ensures fits { IfOk result (λ n. n ≤ length out.old) }
+{
+    let mut plan = load(heap, card)?;
+    let report = plan.solve(heap, STEPS, MOVES)?;
+    print_plan(&plan, &report, out)
 }
 
 fn run(rt: &HostRuntime) -> anyhow::Result<()> {
-    let mut bytes = Vec::new(rt.alloc());
-    rt.stdin().take(MOST).read_to_end(&mut bytes)?;
-    let card = bytes.as_slice();
-    match check_card(card) {
-        Ok(sizes) => {
-            print_sections(rt, card, &sizes)?;
-            let lower = lower_bounds(rt.alloc(), card, &sizes)?;
-            print_sums(rt, card, lower.as_slice())?;
+    let mut card = Vec::new(rt.alloc());
+    rt.stdin().take(MOST).read_to_end(&mut card)?;
+    let mut text = [0u8; ROOM];
+    match solve_card(rt.alloc(), card.as_slice(), &mut text) {
+        Ok(bytes) => {
+            rt.stdout().write_all(&text[..bytes])?;
             Ok(())
         }
-        Err(fault) => {
-            let notice = fault.notice();
-            println!(rt; "refused {} at {}", notice.number, notice.first)?;
+        Err(refusal) => {
+            if let Ok(bytes) = print_refusal(&refusal, &mut text) {
+                rt.stdout().write_all(&text[..bytes])?;
+            }
             Err(anyhow!("the card is refused"))
         }
     }

@@ -9,7 +9,7 @@ use Rattle.lines.specs.declared.unwritten.Unwritten.TheVariants.{Short}
 use Rattle.lines.specs.Answers.{list_after}
 use Rattle.sheet.specs.Loading.{load_answer}
 use Rattle.print.specs.Printing.{plan_text, print_answer, print_after}
-use Rattle.hang_solve.specs.Solved.{solved_text, Solved}
+use Rattle.hang.specs.Solved.{solved_text, Solved}
 
 -- a list without room is left alone
 unprinted : (b : Bool) (text out after : List ℕ) (e : Refusal) → Err e ≡ cond b (Ok (length text)) (Err (OfferLength 320))

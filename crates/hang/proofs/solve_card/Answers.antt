@@ -1,8 +1,8 @@
 use Rattle.card.specs.Grids.{grid_of}
 use Rattle.calls.specs.States.{State}
 use Rattle.plan.specs.View.{view}
-use Rattle.hang_solve.proofs.Printing.{solved_printed}
-use Rattle.hang_solve.proofs.solve_card.Goals as goal
+use Rattle.hang.proofs.Printing.{solved_printed}
+use Rattle.hang.proofs.solve_card.Goals as goal
 
 pub returns : goal.returns
 returns c =
