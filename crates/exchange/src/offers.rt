@@ -15,7 +15,9 @@ const LIMIT: i64 = MULTIPLIER_LIMIT as i64;
 pub(crate) fn point_of(job: &Job, mut pulls: [i64; MOST_ROPES]) -> [i64; MOST_ROPES]
     ensures { result ≡ inside_bounds (problem_of job.now) (take job.now.ropes pulls) ++ drop job.now.ropes pulls }
 {
-    let _ = job.clamp(&mut pulls[0..job.ropes]);
+    // The part has a number for each rope, so that `clamp` does not refuse it.
+    let held = job.clamp(&mut pulls[0..job.ropes]);
+    prove!(held);
     pulls
 }
 

@@ -19,4 +19,4 @@ held_inside j z ys h e =
     ap (λ (k : ℕ). ys ++ drop k z) (sub-zero n) ∙ ap (λ w. w ++ drop n z) g
 
 pub returns : goal.returns
-returns c = held_inside c.args.job.now c.args.pulls c.clamp.new.z (omega (arith, c.args.job.now.some.1)) c.clamp.ensures.after
+returns c = held_inside c.args.job.now c.args.pulls c.clamp-held.new.z (omega (arith, c.args.job.now.some.1)) c.clamp-held.ensures.after
