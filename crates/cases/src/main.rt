@@ -5,7 +5,7 @@
 use block::Block;
 use calls::Amendment;
 use card::CardTable;
-use opening::{List, Lists, Refusal};
+use opening::{Lists, Refusal};
 use plan::Plan;
 use print::{print_plan, print_refusal};
 use session::{Answer, Call, Pair, session};
@@ -22,20 +22,6 @@ const BYTES: usize = 3584;
 fn refused(rt: &HostRuntime, name: &str, refusal: Refusal) -> io::Result<()> {
     let notice = refusal.notice();
     println!(rt; "{name}: {notice} ({})", notice.layer)
-}
-
-/// The lists of J with another one in place of one of them.
-fn with(list: List, numbers: &[i64]) -> Lists {
-    let mut lists = LISTS;
-    match list {
-        List::Costs => lists.c = numbers,
-        List::LowerBounds => lists.l = numbers,
-        List::UpperBounds => lists.u = numbers,
-        List::LowerLimits => lists.lo = numbers,
-        List::UpperLimits => lists.hi = numbers,
-        List::Slip => lists.slip = numbers,
-    }
-    lists
 }
 
 /// Writes the card of J into a list.
@@ -211,10 +197,10 @@ fn table_places(rt: &HostRuntime) -> io::Result<()> {
 /// A card that ends after its head gives sizes, and no place of its tables.
 fn blank_tables(rt: &HostRuntime, card: &[u8; BYTES]) -> io::Result<()> {
     let one = Triplets::new(1, 2, &[]);
-    let g = CardTable::curvature(&card[0..512]);
+    let g = CardTable::curvature(&card[..Block::BYTES]);
     open(rt, "G blank throughout", g, one, &LISTS)?;
     let many = Triplets::new(33, 2, &[]);
-    let g = CardTable::curvature(&card[0..512]);
+    let g = CardTable::curvature(&card[..Block::BYTES]);
     open(rt, "G blank throughout and A 33 by 2", g, many, &LISTS)
 }
 
@@ -225,39 +211,55 @@ fn open_lists(rt: &HostRuntime, name: &str, lists: Lists) -> io::Result<()> {
     open(rt, name, g, a, &lists)
 }
 
-fn open_with(rt: &HostRuntime, name: &str, list: List, numbers: &[i64]) -> io::Result<()> {
-    open_lists(rt, name, with(list, numbers))
+/// The same, where the lists are J's but for what is changed.
+fn open_with<'a, F: FnOnce(&mut Lists<'a>)>(
+    rt: &HostRuntime,
+    name: &str,
+    change: F,
+) -> io::Result<()>
+    requires { F.IsAlwaysCallable change }
+{
+    let mut lists = LISTS;
+    change(&mut lists);
+    open_lists(rt, name, lists)
 }
 
 fn list_lengths(rt: &HostRuntime) -> io::Result<()> {
-    open_with(rt, "3 linear costs", List::Costs, &[0, 0, 0])?;
-    open_with(rt, "1 lower bound", List::LowerBounds, &[0])?;
-    open_with(rt, "3 upper bounds", List::UpperBounds, &[9, 9, 9])?;
-    open_with(rt, "no lower limit", List::LowerLimits, &[])?;
-    open_with(rt, "2 upper limits", List::UpperLimits, &[9, 9])?;
-    open_with(rt, "slip of 3 numbers", List::Slip, &[0, 0, 0])
+    open_with(rt, "3 linear costs", |lists| lists.c = &[0, 0, 0])?;
+    open_with(rt, "1 lower bound", |lists| lists.l = &[0])?;
+    open_with(rt, "3 upper bounds", |lists| lists.u = &[9, 9, 9])?;
+    open_with(rt, "no lower limit", |lists| lists.lo = &[])?;
+    open_with(rt, "2 upper limits", |lists| lists.hi = &[9, 9])?;
+    open_with(rt, "slip of 3 numbers", |lists| lists.slip = &[0, 0, 0])
 }
 
 /// 1,448² is at most 2 · 1,048,576, and 1,449² is not.
 fn list_numbers(rt: &HostRuntime) -> io::Result<()> {
-    open_with(rt, "cost 268435456", List::Costs, &[0, 268435456])?;
-    open_with(rt, "cost 268435457", List::Costs, &[0, 268435457])?;
-    open_with(rt, "lower bound -32769", List::LowerBounds, &[-32769, 0])?;
-    open_with(rt, "upper bound 32769", List::UpperBounds, &[9, 32769])?;
-    open_with(rt, "limit -536870913", List::LowerLimits, &[-536870913])?;
-    open_with(rt, "limit 536870913", List::UpperLimits, &[536870913])?;
-    open_with(rt, "131073 in the slip", List::Slip, &[0, 0, 0, 131073])?;
-    open_with(rt, "bounds crossed", List::LowerBounds, &[0, 11])?;
-    open_with(rt, "limits crossed", List::LowerLimits, &[4])?;
-    open_with(rt, "slip 1448", List::Slip, &[0, 0, 0, 1448])?;
-    open_with(rt, "slip 1449", List::Slip, &[0, 0, 0, 1449])
+    open_with(rt, "cost 268435456", |lists| lists.c = &[0, 268435456])?;
+    open_with(rt, "cost 268435457", |lists| lists.c = &[0, 268435457])?;
+    open_with(rt, "lower bound -32769", |lists| lists.l = &[-32769, 0])?;
+    open_with(rt, "upper bound 32769", |lists| lists.u = &[9, 32769])?;
+    open_with(rt, "limit -536870913", |lists| lists.lo = &[-536870913])?;
+    open_with(rt, "limit 536870913", |lists| lists.hi = &[536870913])?;
+    open_with(
+        rt,
+        "131073 in the slip",
+        |lists| lists.slip = &[0, 0, 0, 131073],
+    )?;
+    open_with(rt, "bounds crossed", |lists| lists.l = &[0, 11])?;
+    open_with(rt, "limits crossed", |lists| lists.lo = &[4])?;
+    open_with(rt, "slip 1448", |lists| lists.slip = &[0, 0, 0, 1448])?;
+    open_with(rt, "slip 1449", |lists| lists.slip = &[0, 0, 0, 1449])
 }
 
 fn list_order(rt: &HostRuntime) -> io::Result<()> {
     let crooked = [Record::new(1, 0, 1)];
     let g = Triplets::new(2, 2, &crooked);
     let a = Triplets::new(1, 2, &[]);
-    let lists = with(List::Costs, &[0, 0, 0]);
+    let lists = Lists {
+        c: &[0, 0, 0],
+        ..LISTS
+    };
     open(rt, "G not symmetric and 3 costs", g, a, &lists)?;
     let lists = Lists {
         c: &[0, 268435457],
