@@ -407,6 +407,18 @@ fn amendments(rt: &HostRuntime) -> io::Result<()> {
     ask(rt, "rope 2 up to 32769", rope(2, 0, 32769))
 }
 
+/// A long run of calls: want of memory alone could end it early, and there is memory.
+fn many_shows(rt: &HostRuntime) -> anyhow::Result<()> {
+    let g = Triplets::new(2, 2, &CURVATURE);
+    let a = Triplets::new(1, 2, &ROW);
+    let calls = vec![in rt.alloc(); Call::Show(&[0, 0]); 1000]?;
+    match session(rt.alloc(), g, a, &LISTS, calls.as_slice()) {
+        Ok(answers) => println!(rt; "1000 shows: {} answers", answers.len())?,
+        Err(refusal) => refused(rt, "1000 shows", refusal)?,
+    }
+    Ok(())
+}
+
 /// The sheet of J after a solve without steps or moves, which offers the lower bounds.
 fn sheet_of(heap: Global, card: &[u8], text: &mut [u8]) -> Result<usize, Refusal> {
     let mut plan = load(heap, card)?;
@@ -447,6 +459,7 @@ fn run(rt: &HostRuntime) -> anyhow::Result<()> {
     proofs(rt)?;
     solves_and_shows(rt)?;
     amendments(rt)?;
+    many_shows(rt)?;
     print_into(rt, &card, &mut [0u8; 319])?;
     print_into(rt, &card, &mut [0u8; 320])?;
     Ok(())
