@@ -3,23 +3,17 @@
 //! The library calls C's functions on memory alone: `malloc`, `realloc` and `free`, by way of the kit's `liblibc_c.a`, and those that copy and fill.
 #![tactic(auto)]
 
-ghost use Rattle.std.specs.Prelude.{◌≡◌, ◌≤◌, length, true, false};
-ghost use Rattle.opening.specs.declared.refusal.Refusal.{Refusal};
+ghost use Rattle.std.specs.Prelude.{◌≡◌, ◌≤◌, length, false};
 ghost use Rattle.print.specs.Printing.{refused_text};
-ghost use Rattle.solver_c.specs.Outcomes.{written, Tried, Answered};
+ghost use Rattle.solver.specs.Outcomes.{written};
+ghost use Rattle.solver_c.specs.Outcomes.{Answered};
 
 use lines::ROOM;
 use opening::Refusal;
-use print::{print_plan, print_refusal};
-use sheet::load;
+use print::print_refusal;
+use solver::solve_card;
 use std::alloc::Global;
 use wire::bits;
-
-/// Steps of the exchange.
-const STEPS: u64 = 1_000;
-
-/// Moves of the walk.
-const MOVES: u64 = 100_000;
 
 /// What became of a card.
 #[repr(C)]
@@ -41,21 +35,6 @@ fn unsolved(bytes: usize) -> Answer
         pivot: 0,
         solved: false,
     }
-}
-
-/// Solves the job of a card, and writes its sheet.
-fn solve(heap: Global, card: &[u8], out: &mut [u8]) -> Result<Answer, Refusal>
-    requires { 320 ≤ length out.old }
-    ensures { Tried card.now out.old out.new result }
-{
-    let mut plan = load(heap, card)?;
-    let report = plan.solve(heap, STEPS, MOVES)?;
-    let bytes = print_plan(&plan, &report, out)?;
-    Ok(Answer {
-        bytes,
-        pivot: bits(report.smallest),
-        solved: true,
-    })
 }
 
 /// Writes why a card is refused.
@@ -87,8 +66,12 @@ pub extern "C" fn solver_c_solve_card(heap: Global, card: &[u8], out: &mut [u8])
     if out.len() < ROOM {
         return unsolved(0);
     }
-    match solve(heap, card, out) {
-        Ok(answer) => answer,
+    match solve_card(heap, card, out) {
+        Ok(solved) => Answer {
+            bytes: solved.bytes,
+            pivot: bits(solved.smallest),
+            solved: true,
+        },
         Err(refusal) => refuse(&refusal, out),
     }
 }
