@@ -22,8 +22,7 @@ pub(crate) fn rounded(unknowns: &[f64]) -> [i64; MOST_ROPES]
     whole
 }
 
-/// Unknowns brought to 256ths.
-// Changed in place, because `map` of an array copies it four times.
+/// Brings unknowns to 256ths.
 pub(crate) fn in_parts(unknowns: &mut [f64])
     ensures { unknowns.new ≡ map in_parts_of unknowns.old }
 {
