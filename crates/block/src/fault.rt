@@ -1,5 +1,5 @@
 ghost use Rattle.std.specs.Prelude.{◌≡◌, Some};
-ghost use Rattle.block.specs.Notices.{notice_of, name_of, notice_text, fault_text};
+ghost use Rattle.block.specs.Notices.{at_card, notice_of, name_of, notice_text, fault_text};
 
 use std::error::Error;
 use std::fmt;
@@ -38,24 +38,30 @@ pub enum Fault {
     Short { needed: usize },
 }
 
+/// A notice by the reader of a card.
+fn at_card(number: u8, first: usize, second: usize) -> Notice
+    ensures { result ≡ at_card number first second }
+{
+    Notice {
+        number,
+        layer: Layer::Card,
+        first,
+        second,
+    }
+}
+
 impl Fault {
     /// The fault's number, layer and places.
     pub fn notice(&self) -> Notice
         ensures { result ≡ notice_of self.now }
     {
-        let (number, first, second) = match *self {
-            Fault::Length { bytes } => (1, bytes, 0),
-            Fault::CheckSum { block } => (2, block as usize, 0),
-            Fault::Name { block } => (3, block as usize, 0),
-            Fault::Sizes { block } => (4, block as usize, 0),
-            Fault::Spare { block, byte } => (5, block as usize, byte as usize),
-            Fault::Short { needed } => (6, needed, 0),
-        };
-        Notice {
-            number,
-            layer: Layer::Card,
-            first,
-            second,
+        match *self {
+            Fault::Length { bytes } => at_card(1, bytes, 0),
+            Fault::CheckSum { block } => at_card(2, block as usize, 0),
+            Fault::Name { block } => at_card(3, block as usize, 0),
+            Fault::Sizes { block } => at_card(4, block as usize, 0),
+            Fault::Spare { block, byte } => at_card(5, block as usize, byte as usize),
+            Fault::Short { needed } => at_card(6, needed, 0),
         }
     }
 }
