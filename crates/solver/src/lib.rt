@@ -9,9 +9,8 @@ mod solved;
 use opening::Refusal;
 use print::print_plan;
 use sheet::load;
-use std::alloc::Global;
-
 pub use solved::Solved;
+use std::alloc::Global;
 
 /// Steps of the exchange.
 const STEPS: u64 = 1_000;
