@@ -1,5 +1,5 @@
 -- A plan that was loaded and solved, and its sheet.
-use Rattle.std.proofs.Common.{◌≡◌, ℕ, ◌≤◌, ◌<◌, Bool, true, false, cond, leb, List, length, Ok, Err, Result, refl, ap, ◌∙◌, inr, arith}
+use Rattle.std.proofs.Common.{◌≡◌, ℕ, Bool, true, false, cond, leb, List, length, Ok, Err, refl, ap, ◌∙◌, inr, arith}
 use Rattle.std.proofs.lemmas.Bool.{leb-true, leb-false}
 use Rattle.opening.specs.declared.refusal.Refusal.{Refusal}
 use Rattle.opening.specs.declared.refusal.Refusal.TheVariants.{OfferLength}
@@ -10,7 +10,6 @@ use Rattle.lines.specs.declared.unwritten.Unwritten.TheVariants.{Short}
 use Rattle.lines.specs.Answers.{list_after}
 use Rattle.sheet.specs.Loading.{load_answer}
 use Rattle.print.specs.Printing.{plan_text, print_answer, print_after}
-use Rattle.solver.specs.declared.solved.Solved.{Solved}
 use Rattle.solver.specs.Outcomes.{solved_text, written, Printed, Refused}
 
 -- a list with room gets the text
