@@ -9,11 +9,11 @@ use crate::members::{Limit, Member, Side};
 use crate::working::WorkingSet;
 use elimination::{LINE_PLACES, MOST_UNKNOWNS};
 use job::Job;
-use std::num::nearest_i64_to_f64;
 
 fn negated(x: i64) -> i64
     requires { unsigned_abs x ≤ 536870912 }
-    ensures { result ≡ neg_ℤ x }
+    ensures value { result ≡ neg_ℤ x }
+    ensures small { unsigned_abs result ≤ 536870912 }
 {
     -x
 }
@@ -21,7 +21,8 @@ fn negated(x: i64) -> i64
 fn curve(job: &Job, r: usize, k: usize) -> i64
     requires row { r < job.now.ropes }
     requires column { k < job.now.ropes }
-    ensures { result ≡ (problem_of job.now).G r k }
+    ensures value { result ≡ (problem_of job.now).G r k }
+    ensures small { unsigned_abs result ≤ 536870912 }
 {
     job.g[r * job.ropes + k]
 }
@@ -80,7 +81,8 @@ impl WorkingSet<'_> {
 
     fn rope_entry(&self, r: usize, k: usize) -> i64
         requires { r < self.now.job.now.ropes }
-        ensures { result ≡ rope_entry (problem_of self.now.job.now) self.now.members.now r k }
+        ensures value { result ≡ rope_entry (problem_of self.now.job.now) self.now.members.now r k }
+        ensures small { unsigned_abs result ≤ 536870912 }
     {
         let ropes = self.job.ropes;
         if k < ropes {
@@ -94,7 +96,8 @@ impl WorkingSet<'_> {
 
     fn member_entry(&self, member: Member, k: usize) -> i64
         requires { Of self.now.job.now.ropes self.now.job.now.rows member.limit }
-        ensures { result ≡ member_entry (problem_of self.now.job.now) self.now.members.now member k }
+        ensures value { result ≡ member_entry (problem_of self.now.job.now) self.now.members.now member k }
+        ensures small { unsigned_abs result ≤ 536870912 }
     {
         let ropes = self.job.ropes;
         if k < ropes {
@@ -108,7 +111,8 @@ impl WorkingSet<'_> {
 
     fn entry(&self, r: usize, k: usize) -> i64
         requires { r < self.now.job.now.ropes + length self.now.members.now }
-        ensures { result ≡ entry_of (problem_of self.now.job.now) self.now.members.now r k }
+        ensures value { result ≡ entry_of (problem_of self.now.job.now) self.now.members.now r k }
+        ensures small { unsigned_abs result ≤ 536870912 }
     {
         let ropes = self.job.ropes;
         if r < ropes {
@@ -123,7 +127,8 @@ impl WorkingSet<'_> {
         ensures { line.new ≡ line_of (problem_of self.now.job.now) self.now.members.now (length line.old) r }
     {
         for (k, x) in line.iter_mut().enumerate() {
-            *x = nearest_i64_to_f64(self.entry(r, k));
+            // By way of 32 bits, which a processor makes a float in one instruction.
+            *x = f64::from(self.entry(r, k) as i32);
         }
     }
 

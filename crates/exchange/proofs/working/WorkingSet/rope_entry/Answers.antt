@@ -1,4 +1,4 @@
-use Rattle.std.proofs.Common.{◌≡◌, ◌+◌, ◌-◌, true, false, ltb, length, neg_ℤ, ap, ◌∙◌, arith, w64, SFits, rules, le-ltb, lt-ltb}
+use Rattle.std.proofs.Common.{◌≡◌, ◌+◌, ◌-◌, true, false, ltb, length, neg_ℤ, nat_abs, ap, ◌∙◌, arith, w64, SFits, rules, le-ltb, lt-ltb}
 use Rattle.std.proofs.lemmas.List.{get_or_default}
 use Rattle.std.proofs.lemmas.Int.{to_z-of_z}
 use Rattle.job.specs.Numbers.{problem_of}
@@ -14,5 +14,9 @@ returns-then-k-ropes-2 c =
     let b : ltb k (j.ropes + length ms) ≡ true = lt-ltb k (j.ropes + length ms) (omega arith) in
     let f : SFits w64 c.negated.result = search rules in
     let g : SFits w64 c.weight.result = search rules in
-    rw (a, b) (to_z-of_z w64 _ f ∙ c.negated.ensures ∙ ap neg_ℤ (to_z-of_z w64 _ g ∙ c.weight.ensures.value ∙ ap (λ z. weight (problem_of j) z.limit c.args.r)
-    (get_or_default ms (k - j.ropes) _ _ (omega arith))))
+    record {
+      value =
+          rw (a, b) (to_z-of_z w64 _ f ∙ c.negated.ensures.value ∙ ap neg_ℤ (to_z-of_z w64 _ g ∙ c.weight.ensures.value ∙ ap (λ z. weight (problem_of j) z.limit c.args.r)
+          (get_or_default ms (k - j.ropes) _ _ (omega arith))));
+      small = omega (arith, ap nat_abs (to_z-of_z w64 _ f), c.negated.ensures.small);
+    }
