@@ -1,4 +1,3 @@
-mod Bettering
 pub mod Refused
 pub mod Opened
 pub mod Insides

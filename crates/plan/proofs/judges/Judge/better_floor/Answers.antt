@@ -5,9 +5,8 @@ use Rattle.opening.proofs.Firsts.{none_of}
 use Rattle.calls.specs.States.{floor_of}
 use Rattle.plan.specs.Bettering.{above}
 use Rattle.plan.specs.View.{pair_of}
-use Rattle.reasons.proofs.Given.{given}
+use Rattle.job.proofs.Given.{given, given_is}
 use Rattle.reasons.proofs.Fitting.{pair_many}
-use Rattle.plan.proofs.Bettering.{answer_is}
 use Rattle.plan.proofs.Refused.{refused_same, allowed_same}
 use Rattle.plan.proofs.judges.Judge.better_floor.Goals as goal
 
@@ -28,6 +27,7 @@ pub returns : goal.returns
 returns g c =
     let j = c.args.self.now in
     let P = problem_of (g.G.Table.meant j.g.now) (g.A.Table.meant j.a.now) j.terms.now in
-    let v : c.unwrap-floor.result ≡ floor_of P (pair_of c.args.pair) = answer_is _ _ _ _ c.floor.ensures.value c.unwrap-floor.ensures in
+    let m = pair_many P (pair_of c.args.pair) (none_of _ _ _ (c.in_ok-check_pair.ensures (g.G.Table.meant j.g.now) (g.A.Table.meant j.a.now))) in
+    let v : c.unwrap-floor.result ≡ floor_of P (pair_of c.args.pair) = given_is _ _ _ _ c.floor.ensures.value (and_from _ _ m.0 m.1) c.unwrap-floor.ensures in
     let e : c.then_some.result ≡ above c.args.held c.unwrap-floor.result = search rules in
     allowed_same _ _ _ _ _ (c.in_ok-check_pair.ensures (g.G.Table.meant j.g.now) (g.A.Table.meant j.a.now)) (e ∙ ap (above c.args.held) v)
