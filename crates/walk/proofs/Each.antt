@@ -1,23 +1,25 @@
 -- What holds of each of a list, of its parts, and of the moves that are tried.
-use Rattle.std.proofs.Common.{◌≡◌, ℕ, zero, suc, ◌+◌, ◌<◌, ◌≤◌, Bool, true, false, List, [], ◌∷◌, ◌++◌, length, ℤ, pos, negsuc, neg_ℤ, Some, None, sym, ap, ◌∙◌, subst, ⊎_elim, arith}
+use Rattle.std.proofs.Common.{◌≡◌, ℕ, zero, suc, ◌+◌, ◌^◌, ◌<◌, ◌≤◌, Bool, true, false, List, [], ◌∷◌, ◌++◌, ℤ, pos, negsuc, neg_ℤ, Some, None, sym, refl, ap, ◌∙◌, subst, ⊎_elim, arith}
 use Rattle.std.specs.List.{range_with_len, flat_map}
 use Rattle.std.proofs.lemmas.Bool.{cases_eq, cases_Bool}
-use Rattle.duality.specs.Lists.{places}
 use Rattle.duality.specs.Sums.{absℤ}
 use Rattle.duality.proofs.Sizes.{nat_abs_neg}
-use Rattle.walk.specs.Moves.{sizes, both_ways, of_rope, candidates}
+use Rattle.walk.specs.Moves.{powers, sizes, both_ways, of_rope, candidates}
 use Rattle.walk.specs.Walks.{first}
 use Rattle.walk.specs.declared.moves.Move.{Move}
-use Rattle.walk.proofs.Sizes.{sizes_long, sizes_positive}
 use Rattle.walk.proofs.Firsts.{first_yes, first_no}
 
 abbrev pub Each : {X : Type 0} → (X → Type 0) → List X → Type 0
 Each P [] = Unit {0}
 Each P (x ∷ xs) = P x × Each P xs
 
-each_append : {X : Type 0} (P : X → Type 0) (xs ys : List X) → Each P xs → Each P ys → Each P (xs ++ ys)
+pub each_append : {X : Type 0} (P : X → Type 0) (xs ys : List X) → Each P xs → Each P ys → Each P (xs ++ ys)
 each_append P [] ys h k = k
 each_append P (x ∷ xs) ys h k = (h.0, each_append P xs ys h.1 k)
+
+pub each_of : {X : Type 0} (P Q : X → Type 0) → ((x : X) → P x → Q x) → (xs : List X) → Each P xs → Each Q xs
+each_of P Q f [] h = tt
+each_of P Q f (x ∷ xs) h = (f x h.0, each_of P Q f xs h.1)
 
 each_joined : {X Y : Type 0} (P : Y → Type 0) (Q : X → Type 0) (f : X → List Y) → ((x : X) → Q x → Each P (f x)) → (xs : List X) → Each Q xs → Each P (flat_map f xs)
 each_joined P Q f h [] q = tt
@@ -45,37 +47,37 @@ each_rope Q a zero k l m h = absurd (omega arith)
 each_rope Q a (suc n) k l m h =
     ⊎_elim (λ (e : a ≡ k). subst Q e h.0) (λ (ne : a ≡ k → ⊥). each_rope Q (a + 1) n k (omega arith) (omega arith) h.1) (cases_eq a k)
 
--- of the numbers of a list, by places
-each_place : (Q : ℤ → Type 0) (xs : List ℤ) (i : ℕ) → i < length xs → Each Q xs → Q (places xs i)
-each_place Q [] i l h = absurd (omega arith)
-each_place Q (x ∷ xs) zero l h = h.0
-each_place Q (x ∷ xs) (suc i) l h = each_place Q xs i (omega arith) h.1
+-- of the first n powers of two
+each_power : (Q : ℤ → Type 0) (n k : ℕ) → k < n → Each Q (powers n) → Q (pos (2 ^ k))
+each_power Q zero k l h = absurd (omega arith)
+each_power Q (suc n) k l h = ⊎_elim (λ (e : n ≡ k). subst (λ (i : ℕ). Q (pos (2 ^ i))) e h.0) (λ (ne : n ≡ k → ⊥). each_power Q n k (omega arith) h.1) (cases_eq n k)
 
-each_from : (Q : ℤ → Type 0) (xs : List ℤ) → ((i : ℕ) → i < length xs → Q (places xs i)) → Each Q xs
-each_from Q [] h = tt
-each_from Q (x ∷ xs) h = (h 0 (omega arith), each_from Q xs (λ i l. h (suc i) (omega arith)))
+each_from : (Q : ℤ → Type 0) (n : ℕ) → ((k : ℕ) → k < n → Q (pos (2 ^ k))) → Each Q (powers n)
+each_from Q zero h = tt
+each_from Q (suc n) h = (h n (omega arith), each_from Q n (λ k l. h k (omega arith)))
 
--- a move of the list is one of n ropes by a size of the table
-abbrev pub Listed : ℕ → Move → Type 0
-Listed n m = (m.rope < n) × ((i : ℕ) × (i < 15) × (absℤ m.by ≡ places sizes i))
-
+-- a size is a power of two
 abbrev Known : ℤ → Type 0
-Known s = (i : ℕ) × (i < 15) × (absℤ s ≡ places sizes i)
+Known s = (i : ℕ) × (i < 15) × (absℤ s ≡ pos (2 ^ i))
+
+-- a move of the list is one of n ropes by a size
+abbrev pub Listed : ℕ → Move → Type 0
+Listed n m = (m.rope < n) × Known m.by
 
 pub candidates_listed : (n : ℕ) → Each (Listed n) (candidates n)
-unfolding candidates of_rope
+unfolding candidates of_rope sizes
 candidates_listed n = each_joined (Listed n) (λ k. k < n) of_rope rope (range_with_len 0 n) (each_counting (λ k. k < n) 0 n (λ k l. omega arith))
   where
     rope : (k : ℕ) → k < n → Each (Listed n) (of_rope k)
-    rope k l = each_joined (Listed n) Known (both_ways k) (λ s h. ((l, h), ((l, (h.0, h.1, ap pos (nat_abs_neg s) ∙ h.2)), tt))) sizes (each_from Known sizes (λ i m. (i, omega (arith, sizes_long), sizes_positive i)))
+    rope k l = each_joined (Listed n) Known (both_ways k) (λ s h. ((l, h), ((l, (h.0, h.1, ap pos (nat_abs_neg s) ∙ h.2)), tt))) sizes (each_from Known 15 (λ i m. (i, m, refl)))
 
 -- and the list has each such move
 pub each_listed : (P : Move → Type 0) (n : ℕ) (m : Move) → Listed n m → Each P (candidates n) → P m
-unfolding candidates of_rope
+unfolding candidates of_rope sizes
 each_listed P n m h e =
     let mine = each_rope (λ k. Each P (of_rope k)) 0 n m.rope (omega arith) (omega (arith, h.0)) (each_parts P of_rope (range_with_len 0 n) e) in
-    let here = each_place (λ s. Each P (both_ways m.rope s)) sizes h.1.0 (omega (arith, sizes_long, h.1.1)) (each_parts P (both_ways m.rope) sizes mine) in
-    way (places sizes h.1.0) m.by h.1.2 here
+    let here = each_power (λ s. Each P (both_ways m.rope s)) 15 h.1.0 h.1.1 (each_parts P (both_ways m.rope) sizes mine) in
+    way (pos (2 ^ h.1.0)) m.by h.1.2 here
   where
     way : (s d : ℤ) → absℤ d ≡ s → Each P (both_ways m.rope s) → P (record { rope = m.rope; by = d })
     way s (pos d) e w = subst (λ (v : ℤ). P (record { rope = m.rope; by = v })) (sym e) w.0

@@ -13,7 +13,7 @@ use Rattle.walk.specs.declared.moves.Move.{Move}
 use Rattle.walk.specs.declared.ends.Walked.{Walked}
 use Rattle.walk.specs.declared.ends.End.{End}
 use Rattle.walk.specs.declared.ends.End.TheVariants.{Settled, Spent}
-use Rattle.walk.proofs.Steps.{found_descends, none_descends, inside_after}
+use Rattle.walk.proofs.Steps.{found_descends, found_first, none_descends, inside_after}
 
 -- a way downhill never leads to a worse point, nor out of the bounds
 worse_not : (P : Problem) (x y z : Vector) → Below P x y → NoWorse P y z → NoWorse P x z
@@ -33,11 +33,11 @@ same_not P x = inr (refl, omega (arith, lin))
 downhill_no_worse : (P : Problem) (n : ℕ) (z y : List ℤ) → Downhill P z n y → NoWorse P (places z) (places y)
 downhill_no_worse P zero z y e = subst (λ (v : List ℤ). NoWorse P (places z) (places v)) e (same_not P (places z))
 downhill_no_worse P (suc n) z y h =
-    worse_not P (places z) (places (after z h.0.0)) (places y) h.0.2 (downhill_no_worse P n (after z h.0.0) y h.1)
+    worse_not P (places z) (places (after z h.0)) (places y) h.1.0.1 (downhill_no_worse P n (after z h.0) y h.2)
 
 downhill_inside : (P : Problem) (n : ℕ) (z y : List ℤ) → InBounds P z → Downhill P z n y → InBounds P y
 downhill_inside P zero z y ins e = subst (λ (v : List ℤ). InBounds P v) e ins
-downhill_inside P (suc n) z y ins h = downhill_inside P n (after z h.0.0) y (inside_after P z h.0.0 ins h.0.1) h.1
+downhill_inside P (suc n) z y ins h = downhill_inside P n (after z h.0) y (inside_after P z h.0 ins h.1.0.0) h.2
 
 -- how a walk of at most b moves ends
 abbrev Ends : Problem → ℕ → List ℤ → ℕ → End → Type 0
@@ -59,9 +59,8 @@ walks_on : (P : Problem) (b : ℕ) (z : List ℤ) → ((y : List ℤ) → Walks 
 walks_on P b z ih None e = (refl, omega arith, e)
 walks_on P b z ih (Some m) e =
     let w = walk_from P b (after z m) in
-    let h = ih (after z m) in
-    let s = found_descends P z m e in (
-      subst (λ (n : ℕ). Downhill P z n w.point) (sym (add-one w.moves)) ((m, s.0, s.1), h.0),
+    let h = ih (after z m) in (
+      subst (λ (n : ℕ). Downhill P z n w.point) (sym (add-one w.moves)) (m, found_first P z m e, h.0),
       omega (arith, h.1),
       ends_more P b w.point w.moves w.end h.2,
     )
@@ -82,6 +81,5 @@ lawful P b z y w ins e =
       settled = λ s. none_descends P y (subst (λ (v : End). Ends P b y w.moves v) s all.2);
       spent = λ s.
           let h = subst (λ (v : End). Ends P b y w.moves v) s all.2 in
-          let d = found_descends P y h.0.0 h.0.1 in
-          (h.1, (h.0.0, d.0, d.1));
+          (h.1, (h.0.0, found_descends P y h.0.0 h.0.1));
     }

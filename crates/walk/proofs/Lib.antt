@@ -10,6 +10,8 @@ pub mod Firsts
 pub mod AlongSizes
 pub mod AlongRopes
 pub mod Each
+pub mod Sorting
 pub mod Steps
 pub mod Turns
 pub mod Lawful
+pub mod Alone

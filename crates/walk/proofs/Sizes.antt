@@ -1,7 +1,6 @@
 -- The table of sizes: how long it is, and that no size passes the largest.
 use Rattle.std.proofs.Common.{◌≡◌, ℕ, zero, suc, ◌^◌, ◌≤◌, length, nat_abs, refl, arith, lit≤, pow_mono}
 use Rattle.duality.specs.Lists.{places}
-use Rattle.duality.specs.Sums.{absℤ}
 use Rattle.walk.specs.Moves.{powers, sizes}
 
 powers_small : (n k : ℕ) → n ≤ 15 → nat_abs (places (powers n) k) ≤ 2 ^ 14
@@ -16,13 +15,3 @@ sizes_small k = powers_small 15 k (lit≤ tt)
 pub sizes_long : length sizes ≡ 15
 unfolding sizes
 sizes_long = refl
-
--- each is its own size, so a move has a size of the table exactly if it is that size or its negative
-powers_positive : (n k : ℕ) → absℤ (places (powers n) k) ≡ places (powers n) k
-powers_positive zero k = refl
-powers_positive (suc n) zero = refl
-powers_positive (suc n) (suc k) = powers_positive n k
-
-pub sizes_positive : (k : ℕ) → absℤ (places sizes k) ≡ places sizes k
-unfolding sizes
-sizes_positive k = powers_positive 15 k

@@ -7,6 +7,7 @@ use Rattle.job.specs.Bounds.{InBounds, is_in_bounds}
 use Rattle.job.specs.Numbers.{has_sizes}
 use Rattle.job.specs.Rows.{outside}
 use Rattle.walk.specs.Moves.{after}
+use Rattle.walk.specs.Order.{Before}
 use Rattle.walk.specs.Lowering.{Below, Step}
 use Rattle.walk.specs.Walks.{walk_from, ended}
 use Rattle.walk.specs.declared.moves.Move.{Move}
@@ -16,14 +17,18 @@ use Rattle.walk.specs.declared.ends.Unfit.{Unfit}
 use Rattle.walk.specs.declared.ends.Unfit.TheVariants.{OutOfBounds, OtherSizes}
 use Rattle.walk.specs.declared.ends.End.TheVariants.{Settled, Spent}
 
--- a move from z that may be made and lowers
-abbrev pub Descent : Problem → List ℤ → Type 0
-Descent P z = (m : Move) × Step P z m × Below P (places z) (places (after z m))
+-- a move that may be made from z and lowers
+abbrev pub Descent : Problem → List ℤ → Move → Type 0
+Descent P z m = Step P z m × Below P (places z) (places (after z m))
 
--- n such moves lead from z to y
+-- and no move that comes before it in the order of the search does
+abbrev pub FirstDescent : Problem → List ℤ → Move → Type 0
+FirstDescent P z m = Descent P z m × ((k : Move) → Before k m → Descent P z k → ⊥)
+
+-- n moves lead from z to y, and each is the first that lowers
 abbrev pub Downhill : Problem → List ℤ → ℕ → List ℤ → Type 0
 Downhill P z zero y = z ≡ y
-Downhill P z (suc n) y = (d : Descent P z) × Downhill P (after z d.0) n y
+Downhill P z (suc n) y = (m : Move) × FirstDescent P z m × Downhill P (after z m) n y
 
 -- y is no worse than z
 abbrev pub NoWorse : Problem → Vector → Vector → Type 0
@@ -31,14 +36,18 @@ NoWorse P z y = (outside P y <ℤ outside P z) ⊎ ((outside P y ≡ outside P z
 
 -- a walk from z to y
 pub record Lawful (P : Problem) (budget : ℕ) (z y : List ℤ) (w : Walked) : Type 0 where
-  -- each move taken lowers, and the count is that of the moves taken
+  -- each move taken is the first that lowers, and the count is that of the moves taken
   pub descends : Downhill P z w.moves y
   pub within_budget : w.moves ≤ budget
   pub in_bounds : InBounds P y
   pub no_worse : NoWorse P (places z) (places y)
   -- settled means that no move lowers; spent, that one does and the budget is used
-  pub settled : w.end ≡ Settled → Descent P y → ⊥
-  pub spent : w.end ≡ Spent → (w.moves ≡ budget) × Descent P y
+  pub settled : w.end ≡ Settled → (m : Move) → Descent P y m → ⊥
+  pub spent : w.end ≡ Spent → (w.moves ≡ budget) × ((m : Move) × Descent P y m)
+
+-- no other end and report keep to that
+abbrev pub Alone : Problem → (budget : ℕ) → (z y : List ℤ) → Walked → Type 0
+Alone P budget z y w = (y' : List ℤ) (w' : Walked) → Lawful P budget z y' w' → (y' ≡ y) × (w' ≡ w)
 
 -- how a call that asks for memory answers, with the point z before and y after it
 abbrev pub Asked : Problem → ℕ → List ℤ → List ℤ → Result Walked Unwalked → Type 0

@@ -1,21 +1,21 @@
 -- Moves that may be made and lower, in the words of a problem.
-use Rattle.std.specs.Prelude.{◌≡◌, ℕ, ◌<◌, Bool, true, false, cond, ◌⊎◌, List, ℤ, ◌+ℤ◌, ◌≤ℤ◌, ◌<ℤ◌, int_lt}
+use Rattle.std.specs.Prelude.{◌≡◌, ℕ, ◌<◌, ◌^◌, Bool, true, false, cond, ◌⊎◌, List, ℤ, pos, ◌+ℤ◌, ◌≤ℤ◌, ◌<ℤ◌, int_lt}
 use Rattle.duality.specs.Lists.{places}
 use Rattle.duality.specs.Sums.{Vector, absℤ}
 use Rattle.duality.specs.Problem.{Problem, cost}
 use Rattle.job.specs.Rows.{outside}
 use Rattle.duality.specs.Tests.{between}
-use Rattle.walk.specs.Moves.{sizes, after}
+use Rattle.walk.specs.Moves.{after}
 use Rattle.walk.specs.declared.moves.Move.{Move}
 
 -- y lies below z: fewer ticks outside the rows, or as many at a lower cost
 abbrev pub Below : Problem → Vector → Vector → Type 0
 Below P z y = (outside P y <ℤ outside P z) ⊎ ((outside P y ≡ outside P z) × (cost P y <ℤ cost P z))
 
--- one rope moves by one size of the table, and stays within its bounds
+-- one rope moves by a power of two, 1 to 16,384, and stays within its bounds
 pub record Step (P : Problem) (z : List ℤ) (m : Move) : Type 0 where
   pub rope_there : m.rope < P.ropes
-  pub size_there : (k : ℕ) × (k < 15) × (absℤ m.by ≡ places sizes k)
+  pub size_there : (k : ℕ) × (k < 15) × (absℤ m.by ≡ pos (2 ^ k))
   pub not_below : P.l m.rope ≤ℤ (places z m.rope +ℤ m.by)
   pub not_above : (places z m.rope +ℤ m.by) ≤ℤ P.u m.rope
 

@@ -2,7 +2,7 @@
 ghost use Rattle.std.specs.Prelude.{◌≡◌, IfOk};
 ghost use Rattle.job.specs.Bounds.{InBounds};
 ghost use Rattle.job.specs.Numbers.{problem_of};
-ghost use Rattle.walk.specs.Laws.{Asked, Outcome, Lawful};
+ghost use Rattle.walk.specs.Laws.{Asked, Outcome, Lawful, Alone};
 ghost use Rattle.walk.specs.Running.{Sized, ropes_in, rows_in};
 ghost use Rattle.walk.specs.Walks.{walk_from, ended};
 
@@ -19,6 +19,7 @@ fn descend(job: &Job, z: &mut [i64], room: &mut Room, budget: u32) -> Walked
     requires sized { Sized job.now.ropes job.now.rows room.old }
     ensures value { ended z.new result ≡ walk_from (problem_of job.now) budget z.old }
     ensures law { Lawful (problem_of job.now) budget z.old z.new result }
+    ensures alone { Alone (problem_of job.now) budget z.old z.new result }
     ensures room { Sized job.now.ropes job.now.rows room.new }
 {
     room.start(job, z);
@@ -50,6 +51,7 @@ fn descend(job: &Job, z: &mut [i64], room: &mut Room, budget: u32) -> Walked
 pub fn walk(heap: Global, job: &Job, point: &mut [i64], budget: u32) -> Result<Walked, Unwalked>
     ensures value { Asked (problem_of job.now) budget point.old point.new result }
     ensures law { IfOk result (λ w. Lawful (problem_of job.now) budget point.old point.new w) }
+    ensures alone { IfOk result (λ w. Alone (problem_of job.now) budget point.old point.new w) }
 {
     if !job.in_bounds(point) {
         return Err(Unwalked::OutOfBounds);
@@ -64,6 +66,7 @@ pub fn walk(heap: Global, job: &Job, point: &mut [i64], budget: u32) -> Result<W
 pub fn walk_in(room: &mut Room, job: &Job, point: &mut [i64], budget: u32) -> Result<Walked, Unfit>
     ensures value { Outcome (problem_of job.now) (ropes_in room.old) (rows_in room.old) budget point.old point.new result }
     ensures law { IfOk result (λ w. Lawful (problem_of job.now) budget point.old point.new w) }
+    ensures alone { IfOk result (λ w. Alone (problem_of job.now) budget point.old point.new w) }
     ensures room { Sized (ropes_in room.old) (rows_in room.old) room.new }
 {
     if !room.is_for(job) {

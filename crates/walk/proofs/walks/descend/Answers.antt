@@ -5,6 +5,7 @@ use Rattle.walk.specs.Running.{Shifted}
 use Rattle.walk.proofs.AlongSizes.{inside_at, tracks_at}
 use Rattle.walk.proofs.Following.{a_point, tame, tracks_after}
 use Rattle.walk.proofs.Lawful.{lawful}
+use Rattle.walk.proofs.Alone.{alone}
 use Rattle.walk.proofs.Steps.{found_listed, found_descends, found_small, inside_after}
 use Rattle.walk.proofs.Turns.{walk_turn, ends_settled, ends_spent, from_start}
 use Rattle.walk.proofs.walks.descend.Goals as goal
@@ -19,9 +20,11 @@ pub returns-in_default : goal.returns-in_default
 returns-in_default c =
     let e = ends_settled (problem_of c.args.job.now) c.args.budget c.loop-moves.moves c.loop-moves.moves c.loop-moves.z c.search.new.z _ refl c.in_default.ensures.value
     c.in_default.ensures.point c.loop-moves.invariant.2 in
+    let law = lawful (problem_of c.args.job.now) c.args.budget c.args.z.now c.search.new.z _ c.requires.inside e in
     record {
       value = e;
-      law = lawful (problem_of c.args.job.now) c.args.budget c.args.z.now c.search.new.z _ c.requires.inside e;
+      law = law;
+      alone = alone (problem_of c.args.job.now) c.args.budget c.args.z.now c.search.new.z _ law;
       room = (c.loop-moves.invariant.1.slopes_long, c.loop-moves.invariant.1.sums_long);
     }
 
@@ -56,9 +59,11 @@ returns-in-None c =
     let all : c.args.budget ≡ c.loop-moves.moves = omega arith in
     let e = ends_settled (problem_of c.args.job.now) c.args.budget c.loop-moves.moves c.args.budget c.loop-moves.z c.search-2.new.z _ all c.in-None.ensures.value
     c.in-None.ensures.point c.loop-moves.invariant.2 in
+    let law = lawful (problem_of c.args.job.now) c.args.budget c.args.z.now c.search-2.new.z _ c.requires.inside e in
     record {
       value = e;
-      law = lawful (problem_of c.args.job.now) c.args.budget c.args.z.now c.search-2.new.z _ c.requires.inside e;
+      law = law;
+      alone = alone (problem_of c.args.job.now) c.args.budget c.args.z.now c.search-2.new.z _ law;
       room = (c.loop-moves.invariant.1.slopes_long, c.loop-moves.invariant.1.sums_long);
     }
 
@@ -67,8 +72,10 @@ returns-in-Some-search c =
     let all : c.args.budget ≡ c.loop-moves.moves = omega arith in
     let e = ends_spent (problem_of c.args.job.now) c.args.budget c.loop-moves.moves c.args.budget c.loop-moves.z c.search-2.new.z c.in-Some-search.field-0 _ all
     c.in-Some-search.ensures.value c.in-Some-search.ensures.point c.loop-moves-test.false c.loop-moves.invariant.2 in
+    let law = lawful (problem_of c.args.job.now) c.args.budget c.args.z.now c.search-2.new.z _ c.requires.inside e in
     record {
       value = e;
-      law = lawful (problem_of c.args.job.now) c.args.budget c.args.z.now c.search-2.new.z _ c.requires.inside e;
+      law = law;
+      alone = alone (problem_of c.args.job.now) c.args.budget c.args.z.now c.search-2.new.z _ law;
       room = (c.loop-moves.invariant.1.slopes_long, c.loop-moves.invariant.1.sums_long);
     }

@@ -19,5 +19,6 @@ returns c =
     record {
       value = (sym c.if-not-is_for.ensures, sym c.if-not-in_bounds.ensures.value, c.descend.ensures.value);
       law = c.descend.ensures.law;
+      alone = c.descend.ensures.alone;
       room = (c.descend.ensures.room.0 ∙ sym h.0, c.descend.ensures.room.1 ∙ sym h.1);
     }
