@@ -1,5 +1,5 @@
 -- The numbers of a problem beside its matrices, with their sizes, when they fit.
-use Rattle.std.specs.Prelude.{ℕ, Bool, cond, ◌&&◌, List, length, ℤ, Some, None, vec_items, vec_len, Option, ◌==◌, nat_le, nat_lt}
+use Rattle.std.specs.Prelude.{ℕ, Bool, cond, ◌&&◌, List, length, ℤ, Some, None, Option, ◌==◌, nat_le, nat_lt}
 use Rattle.duality.specs.Tests.{all_within, in_order}
 use Rattle.terms.specs.declared.numbers.Terms.{Terms}
 
@@ -16,16 +16,23 @@ pub record Numbers : Type 0 where
 abbrev pub numbers : (c l u lo hi : List ℤ) → Numbers
 numbers c l u lo hi = record { ropes = length c; rows = length lo; c = c; l = l; u = u; lo = lo; hi = hi }
 
+-- how many ropes and rows terms are for
+abbrev pub ropes_of : Terms → ℕ
+ropes_of t = length t.c.items
+
+abbrev pub rows_of : Terms → ℕ
+rows_of t = length t.lo.items
+
 abbrev pub numbers_of : Terms → Numbers
 numbers_of t =
     record {
-      ropes = vec_len t.c;
-      rows = vec_len t.lo;
-      c = vec_items t.c;
-      l = vec_items t.l;
-      u = vec_items t.u;
-      lo = vec_items t.lo;
-      hi = vec_items t.hi;
+      ropes = ropes_of t;
+      rows = rows_of t;
+      c = t.c.items;
+      l = t.l.items;
+      u = t.u.items;
+      lo = t.lo.items;
+      hi = t.hi.items;
     }
 
 -- a number of each kind for each of 1 to 16 ropes, and for each of 0 to 32 rows

@@ -4,6 +4,7 @@
 #![tactic(auto)]
 
 mod checks;
+mod fixed;
 mod limits;
 mod makes;
 mod numbers;
@@ -11,9 +12,10 @@ mod ticks;
 mod unmet;
 
 pub use checks::{all_within, between, first_beyond, first_outside, in_order, many_within, within};
+pub use fixed::placed;
 pub use limits::{
-    MOST_ROPES, MOST_ROWS, MULTIPLIER_LIMIT, PLACE_LIMIT, PRICE_LIMIT, PULL_LIMIT, ROUNDED_LIMIT,
-    ROW_LIMIT,
+    MOST_ROPES, MOST_ROWS, MOST_SQUARE, MOST_WEIGHTS, MULTIPLIER_LIMIT, PLACE_LIMIT, PRICE_LIMIT,
+    PULL_LIMIT, ROUNDED_LIMIT, ROW_LIMIT,
 };
 pub use numbers::Terms;
 pub use ticks::excess;

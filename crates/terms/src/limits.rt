@@ -6,6 +6,12 @@ pub const MOST_ROPES: usize = 16;
 /// The most rows.
 pub const MOST_ROWS: usize = 32;
 
+/// The most numbers of G, and of a slip: a number for each two ropes.
+pub const MOST_SQUARE: usize = MOST_ROPES * MOST_ROPES;
+
+/// The most numbers of A: a number for each rope in each row.
+pub const MOST_WEIGHTS: usize = MOST_ROWS * MOST_ROPES;
+
 /// Numbers of a matrix.
 pub const PLACE_LIMIT: u64 = 1_048_576;
 
