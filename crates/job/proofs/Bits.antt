@@ -1,6 +1,5 @@
 -- Numbers that went to bits and are read again.
-use Rattle.std.proofs.Common.{◌≡◌, ℕ, ◌^◌, ◌<◌, ◌≤◌, List, length, get_or, ℤ, pos, ◌+ℤ◌, ◌*ℤ◌, nat_abs, ap, ◌∙◌, arith, w64, SFits, to_z, of_z}
-use Rattle.std.proofs.lemmas.List.{get_or_read_under}
+use Rattle.std.proofs.Common.{◌≡◌, ℕ, ◌^◌, ◌<◌, ◌≤◌, List, ℤ, ◌+ℤ◌, ◌*ℤ◌, nat_abs, ap, ◌∙◌, arith, w64, SFits, to_z, of_z}
 use Rattle.std.proofs.lemmas.Int.{ints, to_z-of_z}
 use Rattle.duality.specs.Lists.{places}
 use Rattle.duality.proofs.Sizes.{small_add}
@@ -20,12 +19,12 @@ small_back n z h l = rw (back_is n z h l) h
 pub small_of : (n : ℕ) (x v : ℤ) → x ≡ v → nat_abs v ≤ n → nat_abs x ≤ n
 small_of n x v e h = rw e h
 
--- a result that is known, and an element of a Vec, both as the next call takes them
+-- a result that is known, and a place of a list that is lent, both as the next call takes them
 pub back_of : (n : ℕ) (r v : ℤ) → r ≡ v → nat_abs v ≤ n → n < 2 ^ 63 → back r ≡ v
 back_of n r v e h l = ap back e ∙ back_is n v h l
 
-pub read_back : (b : ℕ) (xs : List ℤ) (i n : ℕ) (x : ℤ) → x ≡ get_or xs i x → i < n → n ≡ length xs → nat_abs (places xs i) ≤ b → b < 2 ^ 63 → back x ≡ places xs i
-read_back b xs i n x e l long small lt = back_of b x (places xs i) (get_or_read_under xs i n x (pos 0) e l long) small lt
+pub place_back : (b : ℕ) (xs ys : List ℤ) (i : ℕ) → xs ≡ ys → nat_abs (places ys i) ≤ b → b < 2 ^ 63 → back (places xs i) ≡ places ys i
+place_back b xs ys i e small lt = back_of b (places xs i) (places ys i) (ap (λ (zs : List ℤ). places zs i) e) small lt
 
 -- a product and a sum, both of which fit
 module _ (s x y : ℤ) (fs : SFits w64 s) (fx : SFits w64 x) (fy : SFits w64 y) (hs : nat_abs s ≤ 2 ^ 61) (hp : nat_abs (x *ℤ y) ≤ 2 ^ 61) where

@@ -1,5 +1,5 @@
 -- Points inside their bounds, and points held there.
-use Rattle.std.proofs.Common.{◌≡◌, ℕ, ◌+◌, ◌<◌, ◌≤◌, Bool, true, false, eqb, ◌≢◌, List, map, length, set, ℤ, pos, ◌≤ℤ◌, is_some, Option, vec_items, Decides, min, not, sym, ap, ◌∙◌, ⊎_elim, arith}
+use Rattle.std.proofs.Common.{◌≡◌, ℕ, ◌+◌, ◌<◌, ◌≤◌, Bool, true, false, eqb, ◌≢◌, List, map, length, set, ℤ, pos, ◌≤ℤ◌, is_some, Option, Decides, min, not, sym, ap, ◌∙◌, ⊎_elim, arith}
 use Rattle.std.specs.List.{range_with_len}
 use Rattle.std.specs.Int.{int_max, int_min}
 use Rattle.std.proofs.lemmas.List.FromFn.{fill_by_all}
@@ -20,10 +20,11 @@ module _ (P : Problem) where
   abbrev pub lies : List ℤ → ℕ → Bool
   lies z k = between (P.l k) (P.u k) (places z k)
 
-  pub wrong_length : (z : List ℤ) → (length z ≡ P.ropes → ⊥) → eqb (length z) P.ropes ≡ is_in_bounds P z
-  wrong_length z ne =
-      let no' : eqb (length z) P.ropes ≡ false = ne_eqb _ _ ne in
-      no' ∙ sym (and_left (eqb (length z) P.ropes) (all (lies z) P.ropes) no')
+  pub wrong_length : (z : List ℤ) (n : ℕ) → n ≡ P.ropes → (length z ≡ n → ⊥) → eqb (length z) n ≡ is_in_bounds P z
+  wrong_length z n q ne =
+      let no' : eqb (length z) n ≡ false = ne_eqb _ _ ne in
+      let no'' : eqb (length z) P.ropes ≡ false = rw q at no' in
+      no' ∙ sym (and_left (eqb (length z) P.ropes) (all (lies z) P.ropes) no'')
 
   pub in_bounds_out : (z : List ℤ) → is_in_bounds P z ≡ true → InBounds P z
   in_bounds_out z e =
@@ -71,24 +72,24 @@ module _ (j : Job) where
     λ k m. let ne : k ≢ i = omega arith in get_or-set_other y i k v (pos 0) ne ∙ h.1 k (omega arith),
   )
 
-  pub held_all : (z y : List ℤ) (i : ℕ) → length z ≡ j.ropes → length y ≡ length z → j.ropes ≤ i → HeldBelow z y i → y ≡ clamped (problem_of j) z
+  pub held_all : (z y : List ℤ) (i : ℕ) → length z ≡ (problem_of j).ropes → length y ≡ length z → (problem_of j).ropes ≤ i → HeldBelow z y i → y ≡ clamped (problem_of j) z
   held_all z y i lz ly le h =
-      fill_by_all (λ k. held ((problem_of j).l k) ((problem_of j).u k) (places z k)) y j.ropes (pos 0) (ly ∙ lz) (λ k l. h.0 k (omega arith))
-      ∙ sym (cond-true (eqb (length z) j.ropes) (map (λ k. held ((problem_of j).l k) ((problem_of j).u k) (places z k)) (range_with_len 0 j.ropes)) z (eq-eqb _ _ lz))
+      fill_by_all (λ k. held ((problem_of j).l k) ((problem_of j).u k) (places z k)) y (problem_of j).ropes (pos 0) (ly ∙ lz) (λ k l. h.0 k (omega arith))
+      ∙ sym (cond-true (eqb (length z) (problem_of j).ropes) (map (λ k. held ((problem_of j).l k) ((problem_of j).u k) (places z k)) (range_with_len 0 (problem_of j).ropes)) z (eq-eqb _ _ lz))
 
   -- a point of the right length, of which no number was found outside
-  pub none_outside : (z lows highs : List ℤ) (o : Option ℕ) (b : Bool) → lows ≡ vec_items j.l → highs ≡ vec_items j.u → length z ≡ j.ropes →
+  pub none_outside : (z lows highs : List ℤ) (o : Option ℕ) (b : Bool) → lows ≡ j.terms.l.items → highs ≡ j.terms.u.items → length z ≡ (problem_of j).ropes →
       o ≡ first_not (λ k. between (places lows k) (places highs k) (places z k)) (min (length lows) (min (length highs) (length z))) → is_some o ≡ not b →
       b ≡ is_in_bounds (problem_of j) z
   none_outside z lows highs o b el eh long e h =
-      let n : min (length (vec_items j.l)) (min (length (vec_items j.u)) (length z)) ≡ j.ropes = omega (arith, j.lefts.0, j.l.ok.0, j.rights.0, j.u.ok.0) in
-      let all = all_from_none (lies (problem_of j) z) j.ropes o b (rw (el, eh, n) at e) h in
+      let n : min (length (j.terms.l.items)) (min (length (j.terms.u.items)) (length z)) ≡ (problem_of j).ropes = omega (arith, j.terms.lefts.0, j.terms.rights.0) in
+      let all = all_from_none (lies (problem_of j) z) (problem_of j).ropes o b (rw (el, eh, n) at e) h in
       rw (eq-eqb _ _ long) all
 
-  pub open_at : (k : ℕ) → k < j.ropes → (problem_of j).l k ≤ℤ (problem_of j).u k
-  open_at k l = ordered_at _ _ k j.wide (omega (arith, j.lefts.0, j.l.ok.0))
+  pub open_at : (k : ℕ) → k < (problem_of j).ropes → (problem_of j).l k ≤ℤ (problem_of j).u k
+  open_at k l = ordered_at _ _ k j.terms.wide (omega (arith, j.terms.lefts.0))
 
-  pub held_in_bounds : (z y : List ℤ) (i : ℕ) → length z ≡ j.ropes → length y ≡ length z → j.ropes ≤ i → HeldBelow z y i → InBounds (problem_of j) y
+  pub held_in_bounds : (z y : List ℤ) (i : ℕ) → length z ≡ (problem_of j).ropes → length y ≡ length z → (problem_of j).ropes ≤ i → HeldBelow z y i → InBounds (problem_of j) y
   held_in_bounds z y i lz ly le h =
       record {
         long = ly ∙ lz;

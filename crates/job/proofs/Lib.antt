@@ -6,3 +6,4 @@ pub mod Scoring
 pub mod Outside
 pub mod Holding
 pub mod Gradient
+pub mod Making

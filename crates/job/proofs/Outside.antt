@@ -73,9 +73,9 @@ row_met P z i e = between_parts (P.lo i) (P.hi i) (row_at P z i) e
 pub row_broken : (P : Problem) (z : Vector) (i : ℕ) → keeps_row P z i ≡ false → RowKept P z i → ⊥
 row_broken P z i e h = both_ways (keeps_row P z i) e (between_from (P.lo i) (P.hi i) (row_at P z i) h.0 h.1)
 
-module _ (j : Job) (z : List ℤ) (p : many_within j.ropes 32768 z ≡ true) where
+module _ (j : Job) (z : List ℤ) (p : many_within (problem_of j).ropes 32768 z ≡ true) where
   pub row_at_small : (i : ℕ) → nat_abs (row_at (problem_of j) (places z) i) ≤ 2 ^ 39
-  row_at_small i = row_small j (places z) 32768 i (point_small j.ropes 32768 z p)
+  row_at_small i = row_small j (places z) 32768 i (point_small (problem_of j).ropes 32768 z p)
 
   pub row_back : (i : ℕ) (r : ℤ) → r ≡ row_at (problem_of j) (places z) i → back r ≡ row_at (problem_of j) (places z) i
   row_back i r e = back_of (2 ^ 39) r _ e (row_at_small i) (omega arith)
@@ -92,20 +92,20 @@ module _ (j : Job) (z : List ℤ) (p : many_within j.ropes 32768 z ≡ true) whe
   part_small : (i : ℕ) → nat_abs (outside_part j z i) ≤ 2 ^ 40
   part_small i = omega (arith, excess_small ((problem_of j).lo i) ((problem_of j).hi i) (row_at (problem_of j) (places z) i) 536870912 (2 ^ 39) (lo_small j i) (hi_small j i) (row_at_small i))
 
-  pub turn_small : (i : ℕ) (t r : ℤ) → i ≤ j.rows → t ≡ ∑ i (outside_part j z) → r ≡ outside_part j z i → nat_abs (t +ℤ back r) ≤ 2 ^ 46
+  pub turn_small : (i : ℕ) (t r : ℤ) → i ≤ (problem_of j).rows → t ≡ ∑ i (outside_part j z) → r ≡ outside_part j z i → nat_abs (t +ℤ back r) ≤ 2 ^ 46
   turn_small i t r l et er =
       let b : back r ≡ outside_part j z i = back_of (2 ^ 40) r _ er (part_small i) (omega arith) in
       let s = small-∑ i (2 ^ 40) (outside_part j z) (λ k _. part_small k) in
-      let m = mul-le-mul {n₁ = i} {m₁ = 2 ^ 40} {n₂ = 32} {m₂ = 2 ^ 40} (omega (arith, j.few)) (le_refl (2 ^ 40)) in
+      let m = mul-le-mul {n₁ = i} {m₁ = 2 ^ 40} {n₂ = 32} {m₂ = 2 ^ 40} (omega (arith, j.terms.few)) (le_refl (2 ^ 40)) in
       rw (et, b) (omega (arith, small_add (i * 2 ^ 40) (2 ^ 40) (∑ i (outside_part j z)) (outside_part j z i) s (part_small i)))
 
-  pub outside_more : (i : ℕ) (t r : ℤ) → i ≤ j.rows → t ≡ ∑ i (outside_part j z) → r ≡ outside_part j z i → back (t +ℤ back r) ≡ ∑ (i + 1) (outside_part j z)
+  pub outside_more : (i : ℕ) (t r : ℤ) → i ≤ (problem_of j).rows → t ≡ ∑ i (outside_part j z) → r ≡ outside_part j z i → back (t +ℤ back r) ≡ ∑ (i + 1) (outside_part j z)
   outside_more i t r l et er =
       let b : back r ≡ outside_part j z i = back_of (2 ^ 40) r _ er (part_small i) (omega arith) in
       let m : ∑ (i + 1) (outside_part j z) ≡ ∑ i (outside_part j z) +ℤ outside_part j z i = ∑-more i (outside_part j z) in
       let d : t +ℤ back r ≡ ∑ (i + 1) (outside_part j z) = cc in
       to_z-of_z w64 (t +ℤ back r) (fits (2 ^ 46) (t +ℤ back r) (turn_small i t r l et er) (omega arith)) ∙ d
 
-  pub outside_all : (i : ℕ) (t : ℤ) → i ≡ j.rows → t ≡ ∑ i (outside_part j z) → t ≡ outside (problem_of j) (places z)
+  pub outside_all : (i : ℕ) (t : ℤ) → i ≡ (problem_of j).rows → t ≡ ∑ i (outside_part j z) → t ≡ outside (problem_of j) (places z)
   unfolding outside
   outside_all i t e et = et ∙ ap (λ (n : ℕ). ∑ n (outside_part j z)) e

@@ -12,20 +12,20 @@ impl Job {
         ensures value { result ≡ is_in_bounds (problem_of self.now) z.now }
         ensures law { Decides result (InBounds (problem_of self.now) z.now) }
     {
-        z.len() == self.ropes && first_outside(&self.l, &self.u, z).is_none()
+        z.len() == self.ropes() && first_outside(&self.terms.l, &self.terms.u, z).is_none()
     }
 
     /// Holds each number of z inside its rope's bounds. A list of another length stays as it is, and the answer is false.
     pub fn clamp(&self, z: &mut [i64]) -> bool
-        ensures value { result ≡ (length z.old == self.now.ropes) }
+        ensures value { result ≡ (length z.old == (problem_of self.now).ropes) }
         ensures after { z.new ≡ clamped (problem_of self.now) z.old }
         ensures law { result ≡ true → InBounds (problem_of self.now) z.new }
     {
-        if z.len() != self.ropes {
+        if z.len() != self.ropes() {
             return false;
         }
         for (j, x) in z.iter_mut().enumerate() {
-            *x = (*x).clamp(self.l[j], self.u[j]);
+            *x = (*x).clamp(self.terms.l[j], self.terms.u[j]);
         }
         true
     }
