@@ -1,5 +1,6 @@
 -- The floor and the refutation out of their sums.
-use Rattle.std.proofs.Common.{◌≡◌, ◌+◌, ◌^◌, ◌≤◌, Bool, true, List, ℤ, pos, ◌+ℤ◌, ◌-ℤ◌, ◌*ℤ◌, nat_abs, ◌<ℤ◌, vec_len, Decides, sym, refl, ap, ◌∙◌, arith, SFits}
+use Rattle.std.proofs.Common.{◌≡◌, ◌+◌, ◌^◌, ◌≤◌, Bool, true, List, ℤ, pos, ◌+ℤ◌, ◌-ℤ◌, ◌*ℤ◌, nat_abs, ◌<ℤ◌, Decides, sym, refl, ap, ◌∙◌, arith, SFits}
+use Rattle.terms.specs.Numbers.{ropes_of, rows_of}
 use lib.Signed.{lt_z}
 use mir.Syntax.{w128}
 use Rattle.std.proofs.lemmas.Int.{ints}
@@ -18,12 +19,12 @@ use Rattle.terms.specs.declared.numbers.Terms.{Terms}
 use Rattle.evaluate.proofs.Slacking.{row_part, row_part_small, rope_part, rope_part_small, most_part, most_part_small, least_part, least_part_small}
 use Rattle.evaluate.proofs.Widening.{wide, wide_fits, wide_of, parts_small}
 
-module _ (g a : Grid) (t : Terms) (p y : List ℤ) (hp : many_within (vec_len t.c) 32768 p ≡ true) (hy : many_within (vec_len t.lo) 16777216 y ≡ true) where
+module _ (g a : Grid) (t : Terms) (p y : List ℤ) (hp : many_within (ropes_of t) 32768 p ≡ true) (hy : many_within (rows_of t) 16777216 y ≡ true) where
   rows_small : nat_abs (slack_of_rows (problem_of g a t) (places p) (places y)) ≤ 2 ^ 115
-  rows_small = parts_small (row_part a t p y hp hy) (row_part_small a t p y hp hy) (vec_len t.lo) t.few
+  rows_small = parts_small (row_part a t p y hp hy) (row_part_small a t p y hp hy) (rows_of t) t.few
 
   ropes_small : nat_abs (slack_of_ropes (problem_of g a t) (places p) (places y)) ≤ 2 ^ 115
-  ropes_small = parts_small (rope_part g a t p y hp hy) (rope_part_small g a t p y hp hy) (vec_len t.c) (omega (arith, t.some.1))
+  ropes_small = parts_small (rope_part g a t p y hp hy) (rope_part_small g a t p y hp hy) (ropes_of t) (omega (arith, t.some.1))
 
   module _ (r s : ℤ) (er : r ≡ slack_of_rows (problem_of g a t) (places p) (places y)) (es : s ≡ slack_of_ropes (problem_of g a t) (places p) (places y)) where
     rows_wide : wide r ≡ slack_of_rows (problem_of g a t) (places p) (places y)
@@ -58,14 +59,14 @@ module _ (g a : Grid) (t : Terms) (p y : List ℤ) (hp : many_within (vec_len t.
 lt_z_decides : (a b : ℤ) → Decides (lt_z a b) (a <ℤ b)
 lt_z_decides a b = (λ h. grind (arith, ints), λ h. grind (arith, ints))
 
-module _ (g a : Grid) (t : Terms) (y : List ℤ) (hy : many_within (vec_len t.lo) 16777216 y ≡ true) where
+module _ (g a : Grid) (t : Terms) (y : List ℤ) (hy : many_within (rows_of t) 16777216 y ≡ true) where
   most_small : nat_abs (most_allowed (problem_of g a t) (places y)) ≤ 2 ^ 115
   unfolding most_allowed
-  most_small = parts_small (most_part a t y hy) (most_part_small a t y hy) (vec_len t.c) (omega (arith, t.some.1))
+  most_small = parts_small (most_part a t y hy) (most_part_small a t y hy) (ropes_of t) (omega (arith, t.some.1))
 
   least_small : nat_abs (least_needed (problem_of g a t) (places y)) ≤ 2 ^ 115
   unfolding least_needed
-  least_small = parts_small (least_part a t y hy) (least_part_small a t y hy) (vec_len t.lo) t.few
+  least_small = parts_small (least_part a t y hy) (least_part_small a t y hy) (rows_of t) t.few
 
   pub compared : (m l : ℤ) → m ≡ most_allowed (problem_of g a t) (places y) → l ≡ least_needed (problem_of g a t) (places y) →
       lt_z (wide m) (wide l) ≡ lt_z (most_allowed (problem_of g a t) (places y)) (least_needed (problem_of g a t) (places y))

@@ -1,4 +1,3 @@
-pub mod Bits
 pub mod Summing
 pub mod Widening
 pub mod Reading

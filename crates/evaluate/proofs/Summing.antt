@@ -9,8 +9,8 @@ use Rattle.table.specs.Grid.{Grid, matrix_of}
 use Rattle.table.specs.Layers.{flipped}
 use Rattle.table.proofs.Swaps.{flipped_place}
 use Rattle.evaluate.specs.Sums.{Summable}
-use Rattle.evaluate.proofs.Bits.{back, back_is, back_of}
-use Rattle.evaluate.proofs.Bits as bits
+use Rattle.terms.proofs.Bits.{back, back_is, back_of}
+use Rattle.terms.proofs.Bits as bits
 
 -- each number keeps to the limit of a place
 abbrev pub Near : Matrix → Type 0

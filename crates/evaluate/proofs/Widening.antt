@@ -7,7 +7,7 @@ use Rattle.duality.specs.Sums.{Vector, ∑}
 use Rattle.duality.specs.Floor.{furthest}
 use Rattle.duality.proofs.Sizes.{sizes, small_add, small_sub, small_mul, small_max, small-∑}
 use Rattle.duality.proofs.Sums.{∑-more}
-use Rattle.evaluate.proofs.Bits.{back}
+use Rattle.terms.proofs.Bits.{back}
 
 abbrev pub wide : ℤ → ℤ
 wide z = to_z w128 (of_z w128 z)

@@ -1,5 +1,6 @@
 //! The floor that a point and multipliers show.
-ghost use Rattle.std.specs.Prelude.{◌≡◌, ◌^◌, ◌<◌, ◌≤◌, true, ◌&&◌, IfSome, vec_len, unsigned_abs};
+ghost use Rattle.std.specs.Prelude.{◌≡◌, ◌^◌, ◌<◌, ◌≤◌, true, ◌&&◌, IfSome, unsigned_abs};
+ghost use Rattle.terms.specs.Numbers.{ropes_of, rows_of};
 ghost use Rattle.duality.specs.Lists.{places};
 ghost use Rattle.duality.specs.Floor.{residual as residual_of, floor as floor_of};
 ghost use Rattle.table.specs.Grid.{Grid};
@@ -20,14 +21,14 @@ use terms::{MULTIPLIER_LIMIT, PULL_LIMIT, Terms, many_within};
 struct Fitting<'a> {
     terms: &'a Terms,
     pair: Pair<'a>,
-    ghost point_fits: { many_within (vec_len terms.now.c) 32768 pair.point.now ≡ true },
-    ghost weights_fit: { many_within (vec_len terms.now.lo) 16777216 pair.multipliers.now ≡ true },
+    ghost point_fits: { many_within (ropes_of terms.now) 32768 pair.point.now ≡ true },
+    ghost weights_fit: { many_within (rows_of terms.now) 16777216 pair.multipliers.now ≡ true },
 }
 
 impl<'a> Fitting<'a> {
     /// What the multipliers leave of 256 times the slope at rope j.
     fn residual<T: Table, U: Table>(&self, g: &T, a: &U, j: usize) -> i64
-        requires { j < vec_len self.now.terms.now.c }
+        requires { j < ropes_of self.now.terms.now }
         ensures { result ≡ residual_of (problem_of (T.Table.meant g.now) (U.Table.meant a.now) self.now.terms.now)
             (places self.now.pair.point.now) (places self.now.pair.multipliers.now) j }
     {
@@ -70,13 +71,13 @@ impl<'a> Fitting<'a> {
 ///
 /// Nothing where its point hasn't a number for each rope within ±32,768, or there isn't a multiplier for each row within ±16,777,216.
 pub fn floor<T: Table, U: Table>(g: &T, a: &U, terms: &Terms, pair: Pair) -> Option<i128>
-    ensures value { result ≡ answer (many_within (vec_len terms.now.c) 32768 pair.entry.point.now && many_within (vec_len terms.now.lo) 16777216 pair.entry.multipliers.now)
+    ensures value { result ≡ answer (many_within (ropes_of terms.now) 32768 pair.entry.point.now && many_within (rows_of terms.now) 16777216 pair.entry.multipliers.now)
         (floor_of (problem_of (T.Table.meant g.now) (U.Table.meant a.now) terms.now) (places pair.entry.point.now) (places pair.entry.multipliers.now)) }
     ensures law { IfSome result (Floors (problem_of (T.Table.meant g.now) (U.Table.meant a.now) terms.now)) }
     ensures small { IfSome result (λ v. unsigned_abs v ≤ 2 ^ 122) }
 {
-    if !many_within(terms.c.len(), PULL_LIMIT, pair.point)
-        || !many_within(terms.lo.len(), MULTIPLIER_LIMIT, pair.multipliers)
+    if !many_within(terms.ropes(), PULL_LIMIT, pair.point)
+        || !many_within(terms.rows(), MULTIPLIER_LIMIT, pair.multipliers)
     {
         return None;
     }

@@ -1,4 +1,3 @@
-pub mod Bits
 pub mod Firsts
 pub mod Fitting
 pub mod Naming

@@ -13,7 +13,7 @@ use Rattle.duality.proofs.Tests.{within_at}
 use Rattle.table.specs.Grid.{Grid, matrix_of}
 use Rattle.table.proofs.Bounds.{matrix_near}
 use Rattle.opening.specs.Opening.{gram_of, SlipNumbers}
-use Rattle.opening.proofs.Bits.{back, fits, back_is, back_of}
+use Rattle.terms.proofs.Bits.{back, fits, back_is, back_of}
 
 module _ (n : ℕ) (slip : List ℤ) (h : SlipNumbers n slip) where
   abbrev L : Matrix

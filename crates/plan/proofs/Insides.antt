@@ -8,7 +8,7 @@ use Rattle.duality.proofs.Tests.{all_from, all_at, between_from}
 use Rattle.job.proofs.Reading.{wider}
 use Rattle.arrayvec.specs.ArrayVec.{ArrayVec}
 use Rattle.evaluate.specs.Findings.{keeps_bound, keeps_row, feasible}
-use Rattle.evaluate.proofs.Reading.{many_long}
+use Rattle.terms.proofs.Reading.{many_long}
 use Rattle.calls.specs.Steps.{standing}
 use Rattle.calls.specs.Refusing.{point_refusal}
 use Rattle.calls.proofs.Refused.{point_refuses}

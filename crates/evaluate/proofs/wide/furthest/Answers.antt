@@ -1,7 +1,7 @@
 use Rattle.std.proofs.Common.{◌≡◌, ◌^◌, ◌-ℤ◌, ◌*ℤ◌, arith, w64, SFits}
 use Rattle.std.proofs.lemmas.Int.{to_z-of_z}
 use Rattle.duality.proofs.Sizes.{small_sub}
-use Rattle.evaluate.proofs.Bits.{fits}
+use Rattle.terms.proofs.Bits.{fits}
 use Rattle.evaluate.proofs.Widening.{furthest_is}
 use Rattle.evaluate.proofs.wide.furthest.Goals as goal
 

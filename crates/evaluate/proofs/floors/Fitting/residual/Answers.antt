@@ -1,5 +1,6 @@
 use Rattle.std.proofs.Common.{nat_abs, ap, arith, lit≤}
-use Rattle.evaluate.proofs.Reading.{summable, c_small, c_read}
+use Rattle.terms.proofs.Reading.{c_small, c_item}
+use Rattle.evaluate.proofs.Reading.{summable}
 use Rattle.evaluate.proofs.Slacking.{along_small, along_back, weights_small, weights_back, residual_is, residual_back}
 use Rattle.evaluate.proofs.floors.Fitting.residual.Goals as goal
 
@@ -14,7 +15,7 @@ left_of-requires g c =
     let G = g.T.Table.meant c.args.g.now in
     let A = g.U.Table.meant c.args.a.now in
     let x = along_back G t p y c.args.self.now.point_fits c.args.self.now.weights_fit c.args.j _ c.row_of.ensures in
-    let v = c_read t c.args.j _ c.index.ensures c.requires in
+    let v = c_item t c.args.j _ c.deref.ensures.0 in
     let w = weights_back A t y c.args.self.now.weights_fit c.args.j _ c.column_of.ensures in
     record {
       along = omega (arith, ap nat_abs x, along_small G t p y c.args.self.now.point_fits c.args.self.now.weights_fit c.args.j);
@@ -30,7 +31,7 @@ returns g c =
     let G = g.T.Table.meant c.args.g.now in
     let A = g.U.Table.meant c.args.a.now in
     let x = along_back G t p y c.args.self.now.point_fits c.args.self.now.weights_fit c.args.j _ c.row_of.ensures in
-    let v = c_read t c.args.j _ c.index.ensures c.requires in
+    let v = c_item t c.args.j _ c.deref.ensures.0 in
     let w = weights_back A t y c.args.self.now.weights_fit c.args.j _ c.column_of.ensures in
     residual_back G A t p y c.args.self.now.point_fits c.args.self.now.weights_fit c.args.j _
     (residual_is G A t p y c.args.self.now.point_fits c.args.self.now.weights_fit c.args.j _ _ _ c.left_of.result x v w c.left_of.ensures)
