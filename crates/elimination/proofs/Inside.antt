@@ -5,7 +5,7 @@ use lib.Ieee.Back.{round_whole}
 use lib.Ieee.Fits.{down_pos}
 use Rattle.std.specs.Float.{round_with, float_with_sign}
 use Rattle.std.proofs.lemmas.List.{length-set, length-append, length-map, length-take, length-drop}
-use Rattle.elimination.specs.Lines.{at, inside, unknown_of, one_more, unknowns_of, and_then, cleared, cleared_below, traded, takable, pivot_of, lesser, or_stuck, columns_done, solved, Solves}
+use Rattle.elimination.specs.Lines.{at, inside, unknown_of, one_more, unknowns_of, cleared, cleared_below, traded, takable, pivot_of, column_done, lesser, columns_done, triangle_of, solved, Solves}
 use Rattle.elimination.specs.Nearest.{nearest, half_away, with_sign_of}
 use Rattle.elimination.proofs.Halves.{cast_whole}
 
@@ -31,7 +31,7 @@ found_inside n k (line ∷ ls) us e = go (unknowns_of n (suc k) ls) e (found_ins
     go None q h = none_some us q
     go (Some xs) q h = joined_inside (unknown_of n k line xs) xs us (inside (unknown_of n k line xs)) refl q (h xs refl)
 
-found_long : (n k : ℕ) (ls : List (List Float)) (us : List Float) → unknowns_of n k ls ≡ Some us → length us ≡ length ls
+pub found_long : (n k : ℕ) (ls : List (List Float)) (us : List Float) → unknowns_of n k ls ≡ Some us → length us ≡ length ls
 found_long n k [] us e = let g : [] ≡ us = cc in ap length (sym g)
 found_long n k (line ∷ ls) us e = go (unknowns_of n (suc k) ls) e (found_long n (suc k) ls)
   where
@@ -43,36 +43,38 @@ found_long n k (line ∷ ls) us e = go (unknowns_of n (suc k) ls) e (found_long 
     go None q h = none_some us q
     go (Some xs) q h = joined (unknown_of n k line xs) xs (inside (unknown_of n k line xs)) q (h xs refl)
 
-length_done : (k i j : ℕ) (ls : List (List Float)) → length (cleared_below k (traded i j ls)) ≡ length ls
-length_done k i j ls =
+length_done : (w k i j : ℕ) (ls : List (List Float)) → length (cleared_below w k (traded i j ls)) ≡ length ls
+length_done w k i j ls =
     let ms = traded i j ls in
     let a : length ms ≡ length ls = length-set (set ls i (get_or ls j [])) j (get_or ls i []) ∙ length-set ls i (get_or ls j []) in
-    let g = cleared k (get_or ms k []) in
+    let g = cleared k (take w (get_or ms k [])) in
     let b = length-append (take (k + 1) ms) (map g (drop (k + 1) ms)) in
     let c = length-map (drop (k + 1) ms) g in
     omega (arith, length-take (k + 1) ms, length-drop (k + 1) ms)
 
-columns_long : (m k : ℕ) (s : Float) (ls ms : List (List Float)) → (columns_done m k s ls).1 ≡ Some ms → length ms ≡ length ls
-columns_long zero k s ls ms e = let g : ls ≡ ms = cc in ap length (sym g)
-columns_long (suc m) k s ls ms e = go (takable (pivot_of k ls).1) e (λ t xs q. columns_long m (suc k) (lesser s t) xs ms q)
+pub columns_long : (w m k : ℕ) (s : Float) (ls : List (List Float)) → length (columns_done w m k s ls).lines ≡ length ls
+columns_long w zero k s ls = refl
+columns_long w (suc m) k s ls =
+    go (takable (pivot_of k ls).1) (columns_long w m (suc k) (lesser s (pivot_of k ls).1) (column_done w k ls) ∙ length_done w k k (pivot_of k ls).0 ls)
   where
-    go : (b : Bool) → (or_stuck s (cond b (Some ((pivot_of k ls).1, cleared_below k (traded k (pivot_of k ls).0 ls))) None) (λ t xs. columns_done m (suc k) (lesser s t) xs)).1 ≡ Some ms →
-        ((t : Float) (xs : List (List Float)) → (columns_done m (suc k) (lesser s t) xs).1 ≡ Some ms → length ms ≡ length xs) → length ms ≡ length ls
-    go true q f = f (pivot_of k ls).1 (cleared_below k (traded k (pivot_of k ls).0 ls)) q ∙ length_done k k (pivot_of k ls).0 ls
-    go false q f = none_some ms q
+    go : (b : Bool) → length (columns_done w m (suc k) (lesser s (pivot_of k ls).1) (column_done w k ls)).lines ≡ length ls →
+        length (cond b (columns_done w m (suc k) (lesser s (pivot_of k ls).1) (column_done w k ls)) (record { whole = false; least = s; lines = ls })).lines ≡ length ls
+    go true h = h
+    go false h = refl
 
 -- a system that is solved has an unknown for each line, inside the bound
 pub solves : (s : Float) (ls : List (List Float)) → Solves (length ls) (solved s ls).1
 unfolding solved
-solves s ls = go (columns_done (length ls) 0 s ls).1 refl
+solves s ls = go (triangle_of s ls).whole
   where
-    found : (ms : List (List Float)) (o : Option (List Float)) → unknowns_of (length ls) 0 ms ≡ o → length ms ≡ length ls → Solves (length ls) o
-    found ms None e h = tt
-    found ms (Some us) e h = (found_long (length ls) 0 ms us e ∙ h, found_inside (length ls) 0 ms us e)
+    found : (o : Option (List Float)) → unknowns_of (length ls) 0 (triangle_of s ls).lines ≡ o → Solves (length ls) o
+    found None e = tt
+    found (Some us) e =
+        (found_long (length ls) 0 (triangle_of s ls).lines us e ∙ columns_long (length ls + 1) (length ls) 0 s ls, found_inside (length ls) 0 (triangle_of s ls).lines us e)
 
-    go : (o : Option (List (List Float))) → (columns_done (length ls) 0 s ls).1 ≡ o → Solves (length ls) (and_then o (unknowns_of (length ls) 0))
-    go None e = tt
-    go (Some ms) e = found ms (unknowns_of (length ls) 0 ms) refl (columns_long (length ls) 0 s ls ms e)
+    go : (b : Bool) → Solves (length ls) (cond b (unknowns_of (length ls) 0 (triangle_of s ls).lines) None)
+    go true = found (unknowns_of (length ls) 0 (triangle_of s ls).lines) refl
+    go false = tt
 
 half_within : (n d : ℕ) → 0 < d → n < 2 ^ 30 * d → half_away n d ≤ 2 ^ 30
 half_within n d p h =

@@ -1,8 +1,8 @@
 pub mod Numbers
 pub mod Lines
 pub mod Steps
-pub mod Used
 pub mod Back
 pub mod Halves
 pub mod Whole
 pub mod Inside
+pub mod Seen

@@ -1,18 +1,22 @@
--- The two halves of a solution joined, and the system in its square.
-use Rattle.std.proofs.Common.{◌≡◌, ℕ, ◌+◌, ◌≤◌, true, leb, List, length, take, Some, None, Option, sym, ap, ◌∙◌, le-leb}
+-- The two halves of a solution joined.
+use Rattle.std.proofs.Common.{◌≡◌, ◌+◌, true, false, List, length, None, Option, refl, ap, ◌∙◌}
 use lib.Ieee.{Float}
-use Rattle.elimination.specs.Lines.{seen, columns_done, unknowns_of, with_unknowns, solved, solved_in}
+use Rattle.elimination.specs.Lines.{triangle_of, unknowns_of, solved, left}
+use Rattle.elimination.proofs.Inside.{columns_long}
 
-module _ (n : ℕ) (s t : Float) (ls : List (List Float)) (l : length ls ≡ n) where
-  pub stuck_whole : ◌≡◌ {A = Float × Option (List (List Float))} (t, None) (columns_done n 0 s ls) → ◌≡◌ {A = Float × Option (List Float)} (t, None) (solved s ls)
+module _ (s : Float) (ls : List (List Float)) where
+  pub left_is : (triangle_of s ls).lines ≡ left s ls
+  unfolding left
+  left_is = refl
+
+  pub least_is : (triangle_of s ls).least ≡ (solved s ls).0
   unfolding solved
-  stuck_whole e = ap (with_unknowns n) e ∙ ap (λ m. with_unknowns m (columns_done m 0 s ls)) (sym l)
+  least_is = refl
 
-  pub found_whole : (ms : List (List Float)) → ◌≡◌ {A = Float × Option (List (List Float))} (t, Some ms) (columns_done n 0 s ls) →
-      ◌≡◌ {A = Float × Option (List Float)} (t, unknowns_of n 0 ms) (solved s ls)
+  pub stuck_whole : (triangle_of s ls).whole ≡ false → ◌≡◌ {A = Option (List Float)} None (solved s ls).1
   unfolding solved
-  found_whole ms e = ap (with_unknowns n) e ∙ ap (λ m. with_unknowns m (columns_done m 0 s ls)) (sym l)
+  stuck_whole f = rw f
 
--- the system in the first lines of the square
-pub in_square : (n : ℕ) (s : Float) (ls : List (List Float)) → n ≤ 32 → solved s (seen (n + 1) (take n ls)) ≡ solved_in n s ls
-in_square n s ls h = let b : leb n 32 ≡ true = le-leb n 32 h in rw b
+  pub found_whole : (ms : List (List Float)) → ms ≡ (triangle_of s ls).lines → (triangle_of s ls).whole ≡ true → unknowns_of (length ms) 0 ms ≡ (solved s ls).1
+  unfolding solved
+  found_whole ms e f = let l = ap length e ∙ columns_long (length ls + 1) (length ls) 0 s ls in rw (f, l, e)

@@ -50,9 +50,9 @@ pick k i p s (xs ∷ ls) = pick k (suc i) (cond (lt s (size_of (at xs k))) i p) 
 abbrev pub pivot_of : ℕ → List (List Float) → ℕ × Float
 pivot_of k ls = pick k k k none (drop k ls)
 
--- the lines below line k, cleared of column k by it
-abbrev pub cleared_below : ℕ → List (List Float) → List (List Float)
-cleared_below k ls = take (k + 1) ls ++ map (cleared k (slice_index_or ls k [])) (drop (k + 1) ls)
+-- the lines below line k, cleared of column k by its first w places
+abbrev pub cleared_below : ℕ → ℕ → List (List Float) → List (List Float)
+cleared_below w k ls = take (k + 1) ls ++ map (cleared k (take w (slice_index_or ls k []))) (drop (k + 1) ls)
 
 -- lines i and j in each other's place
 abbrev pub traded : ℕ → ℕ → List (List Float) → List (List Float)
@@ -61,22 +61,28 @@ traded i j ls = slice_set (slice_set ls i (slice_index_or ls j [])) j (slice_ind
 abbrev pub takable : Float → Bool
 takable s = lt smallest s && lt s largest
 
--- column k: the size of its pivot and the lines then, or nothing where no pivot can be taken
-abbrev pub column_done : ℕ → List (List Float) → Option (Float × List (List Float))
-column_done k ls = cond (takable (pivot_of k ls).1) (Some ((pivot_of k ls).1, cleared_below k (traded k (pivot_of k ls).0 ls))) None
+-- the lines once column k is done by its pivot: the pivot's line trades places with line k and clears the lines below
+abbrev pub column_done : ℕ → ℕ → List (List Float) → List (List Float)
+column_done w k ls = cleared_below w k (traded k (pivot_of k ls).0 ls)
+
+-- column k: the size of its pivot and the lines then, or nothing beside the lines as they were where no pivot can be taken
+abbrev pub column_tried : ℕ → ℕ → List (List Float) → Option Float × List (List Float)
+column_tried w k ls = cond (takable (pivot_of k ls).1) (Some (pivot_of k ls).1, column_done w k ls) (None, ls)
 
 abbrev pub lesser : Float → Float → Float
 lesser s t = cond (lt t s) t s
 
--- what follows, or nothing beside the size that stands
-abbrev pub or_stuck : {X Y Z : Type 0} → Float → Option (X × Y) → (X → Y → Float × Option Z) → Float × Option Z
-or_stuck s None f = (s, None)
-or_stuck s (Some p) f = f p.0 p.1
+-- What becomes of the lines: whether each column was done, the least size of a pivot, and how they are left.
+pub record Triangle : Type 0 where
+  pub whole : Bool
+  pub least : Float
+  pub lines : List (List Float)
 
--- m columns from column k on: the least of s and the sizes of the pivots taken, and the lines then, or nothing where a column has no pivot
-abbrev pub columns_done : ℕ → ℕ → Float → List (List Float) → Float × Option (List (List Float))
-columns_done zero k s ls = (s, Some ls)
-columns_done (suc m) k s ls = or_stuck s (column_done k ls) (λ t ms. columns_done m (suc k) (lesser s t) ms)
+-- m columns from column k on, until one has no pivot: the size is the least of s and those of the pivots taken
+abbrev pub columns_done : ℕ → ℕ → ℕ → Float → List (List Float) → Triangle
+columns_done w zero k s ls = record { whole = true; least = s; lines = ls }
+columns_done w (suc m) k s ls =
+    cond (takable (pivot_of k ls).1) (columns_done w m (suc k) (lesser s (pivot_of k ls).1) (column_done w k ls)) (record { whole = false; least = s; lines = ls })
 
 -- The right side b without each coefficient times its unknown, in rising order.
 abbrev pub rest : Float → List Float → List Float → Float
@@ -107,20 +113,27 @@ abbrev pub unknowns_of : ℕ → ℕ → List (List Float) → Option (List Floa
 unknowns_of n k [] = Some []
 unknowns_of n k (line ∷ ls) = one_more n k line (unknowns_of n (suc k) ls)
 
-abbrev pub and_then : {X Y : Type 0} → Option X → (X → Option Y) → Option Y
-and_then None f = None
-and_then (Some x) f = f x
+-- A system of as many unknowns as lines, brought to the triangle.
+abbrev pub triangle_of : Float → List (List Float) → Triangle
+triangle_of s ls = columns_done (length ls + 1) (length ls) 0 s ls
 
-abbrev pub with_unknowns : ℕ → Float × Option (List (List Float)) → Float × Option (List Float)
-with_unknowns n p = (p.0, and_then p.1 (unknowns_of n 0))
+abbrev pub with_unknowns : ℕ → Triangle → Float × Option (List Float)
+with_unknowns n t = (t.least, cond t.whole (unknowns_of n 0 t.lines) None)
 
 -- A system solved: the least of s and the sizes of the pivots taken, and the unknowns, or nothing where the system is stuck.
 unfoldable pub solved : Float → List (List Float) → Float × Option (List Float)
-solved s ls = with_unknowns (length ls) (columns_done (length ls) 0 s ls)
+solved s ls = with_unknowns (length ls) (triangle_of s ls)
 
--- The system in the first places of a square of 32 lines; one that is larger has no pivot.
-abbrev pub solved_in : ℕ → Float → List (List Float) → Float × Option (List Float)
-solved_in n s ls = cond (nat_le n 32) (solved s (seen (n + 1) (take n ls))) (s, None)
+-- the lines that it leaves
+unfoldable pub left : Float → List (List Float) → List (List Float)
+left s ls = (triangle_of s ls).lines
+
+-- The same of lines of 33 places: a larger system has no pivot.
+abbrev pub solved_in : Float → List (List Float) → Float × Option (List Float)
+solved_in s ls = cond (nat_le (length ls) 32) (solved s ls) (s, None)
+
+abbrev pub left_in : Float → List (List Float) → List (List Float)
+left_in s ls = cond (nat_le (length ls) 32) (left s ls) ls
 
 -- filled up with 0 to 32 places
 abbrev pub padded : List Float → List Float

@@ -1,73 +1,71 @@
 //! Columns cleared from the left.
-ghost use Rattle.std.specs.Prelude.{◌≡◌, ◌<◌, ◌≤◌, ◌+◌, map, ◌+◌, length, take};
-ghost use Rattle.std.specs.Option.{option_map};
-ghost use Rattle.elimination.specs.Lines.{seen, less, cleared, cleared_below, column_done, columns_done};
-ghost use Rattle.elimination.specs.Squares.{lines_of};
+ghost use Rattle.std.specs.Prelude.{◌≡◌, ◌<◌, ◌≤◌, ◌+◌, map, length};
+ghost use Rattle.elimination.specs.Lines.{less, cleared, cleared_below, column_tried, triangle_of};
 
-use crate::squares::{LINE_PLACES, System};
+use crate::pivots::pivot_in_column;
+use crate::squares::LINE_PLACES;
 
-impl System {
-    /// Brings the lines to the upper triangle, or answers nothing at a column that has no pivot; either way the smallest size of a pivot is noted.
-    pub(crate) fn eliminate(&mut self, smallest: &mut f64) -> Option<()>
-        ensures size { self.new.size ≡ self.old.size }
-        ensures value { (smallest.new, option_map (λ _. lines_of self.new) result)
-            ≡ columns_done self.old.size 0 smallest.old (lines_of self.old) }
-    {
-        for k in 0..self.size {
-            let size = self.eliminate_column(k)?;
-            if size < *smallest {
-                *smallest = size;
-            }
+/// Brings the lines to the upper triangle, or stops at a column that has no pivot; either way the smallest size of a pivot is noted. Whether each column was done.
+pub(crate) fn eliminate(lines: &mut [[f64; LINE_PLACES]], smallest: &mut f64) -> bool
+    requires { length lines.old ≤ 32 }
+    ensures whole { result ≡ (triangle_of smallest.old lines.old).whole }
+    ensures smallest { smallest.new ≡ (triangle_of smallest.old lines.old).least }
+    ensures lines { lines.new ≡ (triangle_of smallest.old lines.old).lines }
+{
+    for k in 0..lines.len() {
+        let Some(size) = eliminate_column(lines, k) else {
+            return false;
+        };
+        if size < *smallest {
+            *smallest = size;
         }
-        Some(())
     }
-
-    /// The size of column k's pivot, once the column is cleared below it.
-    fn eliminate_column(&mut self, k: usize) -> Option<f64>
-        requires { k < self.old.size }
-        ensures size { self.new.size ≡ self.old.size }
-        ensures value { option_map (λ s. (s, lines_of self.new)) result ≡ column_done k (lines_of self.old) }
-    {
-        let pivot = self.pivot(k);
-        if !pivot.can_be_taken() {
-            return None;
-        }
-        self.lines.swap(k, pivot.place);
-        clear_below(&mut self.lines, self.size, k);
-        Some(pivot.size)
-    }
+    true
 }
 
-// No method, because a part of a field cannot be lent from behind `&mut self` where the struct has a ghost field.
-fn clear_below(lines: &mut [[f64; LINE_PLACES]], size: usize, k: usize)
-    requires line { k < size }
-    requires size { size ≤ length lines.old }
-    requires few { size ≤ 32 }
-    ensures { seen (size + 1) (take size lines.new) ≡ cleared_below k (seen (size + 1) (take size lines.old)) }
+/// The size of column k's pivot, once the column is cleared below it. Where no pivot can be taken the lines stay.
+fn eliminate_column(lines: &mut [[f64; LINE_PLACES]], k: usize) -> Option<f64>
+    requires column { k < length lines.old }
+    requires few { length lines.old ≤ 32 }
+    ensures { (result, lines.new) ≡ column_tried (length lines.old + 1) k lines.old }
 {
+    let pivot = pivot_in_column(lines, k);
+    if !pivot.can_be_taken() {
+        return None;
+    }
+    lines.swap(k, pivot.place);
+    clear_below(lines, k);
+    Some(pivot.size)
+}
+
+fn clear_below(lines: &mut [[f64; LINE_PLACES]], k: usize)
+    requires column { k < length lines.old }
+    requires few { length lines.old ≤ 32 }
+    ensures { lines.new ≡ cleared_below (length lines.old + 1) k lines.old }
+{
+    let size = lines.len();
     let (above, below) = lines.split_at_mut(k + 1);
-    clear_lines(&mut below[..size - k - 1], k, &above[k][..=size]);
+    clear_lines(below, k, &above[k][..=size]);
 }
 
 /// Clears column k of each line, as far as the pivot's line goes.
 fn clear_lines(lines: &mut [[f64; LINE_PLACES]], k: usize, pivot_line: &[f64])
     requires column { k < length pivot_line.now }
     requires width { length pivot_line.now ≤ 33 }
-    ensures { seen (length pivot_line.now) lines.new
-        ≡ map (cleared k pivot_line.now) (seen (length pivot_line.now) lines.old) }
+    ensures { lines.new ≡ map (cleared k pivot_line.now) lines.old }
 {
     for line in lines.iter_mut() {
-        clear_entry(&mut line[0..pivot_line.len()], k, pivot_line);
+        clear_entry(&mut line[..], k, pivot_line);
     }
 }
 
 fn clear_entry(line: &mut [f64], k: usize, pivot_line: &[f64])
-    requires same { length line.old ≡ length pivot_line.now }
-    requires column { k < length line.old }
+    requires column { k < length pivot_line.now }
+    requires width { length pivot_line.now ≤ length line.old }
     ensures { line.new ≡ cleared k pivot_line.now line.old }
 {
     let f = line[k] / pivot_line[k];
-    subtract_multiple(&mut line[k + 1..], f, &pivot_line[k + 1..]);
+    subtract_multiple(&mut line[k + 1..pivot_line.len()], f, &pivot_line[k + 1..]);
 }
 
 fn subtract_multiple(line: &mut [f64], f: f64, pivot_line: &[f64])

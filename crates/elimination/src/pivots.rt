@@ -1,9 +1,8 @@
 //! The pivot of a column.
-ghost use Rattle.std.specs.Prelude.{◌≡◌, ◌<◌};
+ghost use Rattle.std.specs.Prelude.{◌≡◌, ◌<◌, ◌≤◌, length};
 ghost use Rattle.elimination.specs.Lines.{pivot_of, takable};
-ghost use Rattle.elimination.specs.Squares.{lines_of};
 
-use crate::squares::System;
+use crate::squares::LINE_PLACES;
 
 /// A pivot's size lies strictly above this, 2^-20.
 const SMALLEST: f64 = 0.00000095367431640625;
@@ -25,23 +24,22 @@ impl Pivot {
     }
 }
 
-impl System {
-    /// The first of the largest entries of column k, from line k down.
-    pub(crate) fn pivot(&self, k: usize) -> Pivot
-        requires { k < self.now.size }
-        ensures value { (result.place, result.size) ≡ pivot_of k (lines_of self.now) }
-        ensures within { result.place < self.now.size }
-    {
-        let mut best = Pivot {
-            place: k,
-            size: 0.0,
-        };
-        for (i, line) in self.lines[k..self.size].iter().enumerate() {
-            let size = line[k].abs();
-            if size > best.size {
-                best = Pivot { place: k + i, size };
-            }
+/// The first of the largest entries of column k, from line k down.
+pub(crate) fn pivot_in_column(lines: &[[f64; LINE_PLACES]], k: usize) -> Pivot
+    requires column { k < length lines.now }
+    requires few { length lines.now ≤ 32 }
+    ensures value { (result.place, result.size) ≡ pivot_of k lines.now }
+    ensures within { result.place < length lines.now }
+{
+    let mut best = Pivot {
+        place: k,
+        size: 0.0,
+    };
+    for (i, line) in lines[k..].iter().enumerate() {
+        let size = line[k].abs();
+        if size > best.size {
+            best = Pivot { place: k + i, size };
         }
-        best
     }
+    best
 }

@@ -1,10 +1,11 @@
 //! A system as a whole.
-ghost use Rattle.std.specs.Prelude.{◌≡◌};
+ghost use Rattle.std.specs.Prelude.{◌≡◌, ◌≤◌, ◌+◌, length};
 ghost use Rattle.std.specs.Option.{option_map};
-ghost use Rattle.elimination.specs.Lines.{solved, solved_in, padded, Solves};
-ghost use Rattle.elimination.specs.Squares.{lines_of};
+ghost use Rattle.elimination.specs.Lines.{solved, solved_in, left, left_in, padded, seen, Solves};
 
-use crate::squares::{LINE_PLACES, MOST_UNKNOWNS, System};
+use crate::columns::eliminate;
+use crate::squares::{LINE_PLACES, MOST_UNKNOWNS};
+use crate::unknowns::back_substitute;
 
 /// The unknowns, filled up with 0 to 32 places, or nothing where the system is stuck; and the smallest size of a pivot that was taken.
 #[derive(Clone, Copy)]
@@ -13,31 +14,40 @@ pub struct Solution {
     pub smallest: f64,
 }
 
-impl System {
-    /// The unknowns, filled up with 0; the smallest size of a pivot is noted.
-    fn solve(mut self, smallest: &mut f64) -> Option<[f64; MOST_UNKNOWNS]>
-        ensures smallest { smallest.new ≡ (solved smallest.old (lines_of self)).0 }
-        ensures unknowns { result ≡ option_map padded (solved smallest.old (lines_of self)).1 }
-    {
-        self.eliminate(smallest)?;
-        self.back_substitute()
+/// The unknowns, filled up with 0; the smallest size of a pivot is noted.
+fn unknowns_of_system(
+    lines: &mut [[f64; LINE_PLACES]],
+    smallest: &mut f64,
+) -> Option<[f64; MOST_UNKNOWNS]>
+    requires { length lines.old ≤ 32 }
+    ensures smallest { smallest.new ≡ (solved smallest.old lines.old).0 }
+    ensures unknowns { result ≡ option_map padded (solved smallest.old lines.old).1 }
+    ensures lines { lines.new ≡ left smallest.old lines.old }
+{
+    if eliminate(lines, smallest) {
+        back_substitute(lines)
+    } else {
+        None
     }
 }
 
-/// Solves the system of n unknowns in the first n lines.
+/// Solves a system of as many unknowns as there are lines, in place. A line has a coefficient for each unknown and then its right side; the places beyond go with their line.
 ///
 /// It is stuck where a column has no pivot strictly between 2^-20 and 2^60, or an unknown does not lie strictly within ±1,073,741,824.
-/// A system of more than 32 unknowns is stuck before its first pivot. `smallest` is the smallest size so far.
-pub fn solve(lines: [[f64; LINE_PLACES]; MOST_UNKNOWNS], n: usize, mut smallest: f64) -> Solution
-    ensures smallest { result.smallest ≡ (solved_in n smallest lines).0 }
-    ensures unknowns { result.unknowns ≡ option_map padded (solved_in n smallest lines).1 }
-    ensures law { Solves n (solved_in n smallest lines).1 }
+/// The lines are left as they are once the last column is done, or those before the one without a pivot.
+/// A system of more than 32 unknowns is stuck before its first pivot, and its lines stay. `smallest` is the smallest size so far.
+pub fn solve(lines: &mut [[f64; LINE_PLACES]], mut smallest: f64) -> Solution
+    ensures smallest { result.smallest ≡ (solved_in smallest lines.old).0 }
+    ensures unknowns { result.unknowns ≡ option_map padded (solved_in smallest lines.old).1 }
+    ensures lines { lines.new ≡ left_in smallest lines.old }
+    ensures beyond { solved_in smallest (seen (length lines.old + 1) lines.old) ≡ solved_in smallest lines.old }
+    ensures law { Solves (length lines.old) (solved_in smallest lines.old).1 }
 {
-    // A square with a number of lines and no `Vec`, because a step of the exchange takes no memory.
-    let unknowns = if n > MOST_UNKNOWNS {
+    // Lines with a number of places and no `Vec`, because a step of the exchange takes no memory.
+    let unknowns = if lines.len() > MOST_UNKNOWNS {
         None
     } else {
-        System { lines, size: n }.solve(&mut smallest)
+        unknowns_of_system(lines, &mut smallest)
     };
     Solution { unknowns, smallest }
 }

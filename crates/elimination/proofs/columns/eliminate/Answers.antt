@@ -1,0 +1,46 @@
+use Rattle.std.proofs.Common.{◌≡◌, ℕ, ◌+◌, List, length, Some, None, Option, ap, sym, ◌∙◌, subst}
+use native.Mathlib.Nat.{sub-zero}
+use lib.Ieee.{Float}
+use Rattle.elimination.specs.Lines.{column_tried, lesser, Triangle}
+use Rattle.elimination.proofs.Steps.{columns_some, columns_none, columns_all}
+use Rattle.elimination.proofs.columns.eliminate.Goals as goal
+use Rattle.elimination.proofs.columns.eliminate.Goals.{then-size-smallest, else-size-smallest}
+
+pub loop-k-init : goal.loop-k-init
+loop-k-init c = rw sub-zero
+
+pub loop-k-preserved : goal.loop-k-preserved
+loop-k-preserved c =
+    let n = length c.args.lines.now in
+    let k = c.loop-k.k in
+    let P : ℕ → Type 0 = λ m. ◌≡◌ {A = Option Float × List (List Float)} (Some c.in-Some.size, c.eliminate_column.new.lines) (column_tried (m + 1) k c.loop-k.lines) in
+    let u : c.if-size-smallest.smallest ≡ lesser c.loop-k.smallest c.in-Some.size =
+    elim c.if-size-smallest.branch [
+      | then-size-smallest w ↦ w.smallest-is ∙ rw w.if-size-smallest.true
+      | else-size-smallest w ↦ w.smallest-is ∙ rw w.if-size-smallest.false
+    ] in
+    columns_some (n + 1) n k c.loop-k.smallest c.loop-k.lines c.in-Some.size c.if-size-smallest.smallest c.eliminate_column.new.lines c.loop-k-test.true (subst P c.loop-k.auto.lines c.in-Some.ensures) u
+    ∙ c.loop-k.invariant
+
+pub returns-in_default : goal.returns-in_default
+returns-in_default c =
+    let n = length c.args.lines.now in
+    let k = c.loop-k.k in
+    let r = ap (λ z. (z, c.eliminate_column.new.lines)) (sym c.in_default.is) ∙ c.eliminate_column.ensures in
+    let P : ℕ → Type 0 = λ m. ◌≡◌ {A = Option Float × List (List Float)} (None, c.eliminate_column.new.lines) (column_tried (m + 1) k c.loop-k.lines) in
+    let e = columns_none (n + 1) n k c.loop-k.smallest c.loop-k.lines c.eliminate_column.new.lines c.loop-k-test.true (subst P c.loop-k.auto.lines r) ∙ c.loop-k.invariant in
+    record {
+      whole = ap (λ (t : Triangle). t.whole) e;
+      smallest = ap (λ (t : Triangle). t.least) e;
+      lines = ap (λ (t : Triangle). t.lines) e;
+    }
+
+pub returns : goal.returns
+returns c =
+    let n = length c.args.lines.now in
+    let e = sym (columns_all (n + 1) n c.loop-k.k c.loop-k.smallest c.loop-k.lines c.loop-k-test.false) ∙ c.loop-k.invariant in
+    record {
+      whole = ap (λ (t : Triangle). t.whole) e;
+      smallest = ap (λ (t : Triangle). t.least) e;
+      lines = ap (λ (t : Triangle). t.lines) e;
+    }
