@@ -1,12 +1,13 @@
 -- A step, put together from its system, its reading and its choice.
-use Rattle.std.proofs.Common.{◌≡◌, ℕ, ◌+◌, ◌<◌, ◌≤◌, true, false, eqb, leb, List, length, take, Some, None, Option, refl, ap, ◌∙◌, subst, arith, eqb-true, le-leb}
+use Rattle.std.proofs.Common.{◌≡◌, ℕ, ◌+◌, ◌<◌, ◌≤◌, true, false, eqb, leb, List, length, take, Some, None, Option, refl, ap, ◌∙◌, subst, arith, eqb-true, le-leb, sym}
 use lib.Ieee.{Float}
-use Rattle.std.proofs.lemmas.List.{take_at}
+use Rattle.std.proofs.lemmas.List.{take_at, length-take-le}
 use Rattle.std.proofs.lemmas.Bool.{and_parts}
 use Rattle.std.specs.Option.{option_map}
 use Rattle.duality.specs.Problem.{Problem}
 use Rattle.job.specs.Numbers.{has_sizes}
 use Rattle.elimination.specs.Lines.{seen, at, inside, solved, solved_in, padded, Solves}
+use Rattle.elimination.proofs.Seen.{solved_seen}
 use Rattle.exchange.specs.Systems.{size_of, system_of}
 use Rattle.exchange.specs.Offers.{offered}
 use Rattle.exchange.specs.Steps.{solved_at, choice_at, step_of, smallest_after}
@@ -18,13 +19,18 @@ use Rattle.exchange.specs.declared.members.Step.TheVariants.{Refused, Stuck, Fou
 abbrev pub Pair : Type 0
 Pair = Float × Option (List Float)
 
--- the system that was written in the square is the working set's
-pub system_solved : (P : Problem) (ms vs : List Member) (n : ℕ) (s : Float) (L : List (List Float)) → vs ≡ ms → n ≡ size_of P ms → size_of P ms ≤ 32 →
-    seen (size_of P vs + 1) (take (size_of P vs) L) ≡ system_of P vs → ◌≡◌ {A = Pair} (solved_in n s L) (solved_at P ms s)
-system_solved P ms vs n s L e l h q =
+-- the system that was written in the first lines of the square is the working set's
+pub system_solved : (P : Problem) (ms vs : List Member) (n : ℕ) (s : Float) (L : List (List Float)) → vs ≡ ms → n ≡ size_of P ms → size_of P ms ≤ 32 → n ≤ length L →
+    seen (size_of P vs + 1) (take (size_of P vs) L) ≡ system_of P vs → ◌≡◌ {A = Pair} (solved_in s (take n L)) (solved_at P ms s)
+system_solved P ms vs n s L e l h q r =
+    let t : length (take n L) ≡ n = length-take-le n L q in
+    let b : leb (length (take n L)) 32 ≡ true = le-leb _ _ (omega arith) in
     let R : List Member → Type 0 = λ us. seen (size_of P us + 1) (take (size_of P us) L) ≡ system_of P us in
-    let b : leb (size_of P ms) 32 ≡ true = le-leb _ _ h in
-    rw (l, b) (ap (solved s) (subst R e q))
+    let c : seen (length (take n L) + 1) (take n L) ≡ system_of P ms = ap (λ (m : ℕ). seen (m + 1) (take n L)) t ∙ ap (λ (m : ℕ). seen (m + 1) (take m L)) l ∙ subst R e r in
+    rw b (sym (solved_seen s (take n L)) ∙ ap (solved s) c)
+
+pub law_kept : (n : ℕ) (L : List (List Float)) (o : Option (List Float)) → n ≤ length L → Solves (length (take n L)) o → Solves n o
+law_kept n L o q w = let P : ℕ → Type 0 = λ m. Solves m o in subst P (length-take-le n L q) w
 
 pub none_from : (o : Option (List Float)) → ◌≡◌ {A = Option (List Float)} None (option_map padded o) → o ≡ None
 none_from None e = refl

@@ -94,10 +94,10 @@ impl Exchange {
             members: &self.members,
         };
         let size = set.size();
-        // The square is made here, where `solve` takes it: one that a function hands out is copied once more.
+        // The square is made here: one that a function hands out is copied.
         let mut lines = [[0.0; LINE_PLACES]; MOST_UNKNOWNS];
         set.fill_square(&mut lines);
-        let solution = solve(lines, size, self.smallest);
+        let solution = solve(&mut lines[..size], self.smallest);
         self.smallest = solution.smallest;
         let Some(mut unknowns) = solution.unknowns else {
             return Step::Stuck;

@@ -94,7 +94,7 @@ fn run_system(rt: &HostRuntime, line: &mut Line) -> anyhow::Result<()> {
         }
     }
     let most = scaled(1, 60);
-    Ok(print_solution(rt, n, &solve(lines, n, most))?)
+    Ok(print_solution(rt, n, &solve(&mut lines[..n], most))?)
 }
 
 /// A job, the budget and the point that it starts from.

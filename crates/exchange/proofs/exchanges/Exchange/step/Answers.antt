@@ -13,7 +13,7 @@ use Rattle.exchange.specs.declared.members.Step.TheVariants.{Found}
 use Rattle.exchange.proofs.Offering.{offered_inside}
 use Rattle.exchange.proofs.Worst.{chosen_well}
 use Rattle.exchange.proofs.Following.{chosen_follows}
-use Rattle.exchange.proofs.Stepping.{Pair, system_solved, none_from, some_from, array_front, front_long, front_inside, sizes_fit, step_refused, smallest_kept, step_stuck, step_found, smallest_noted}
+use Rattle.exchange.proofs.Stepping.{Pair, system_solved, law_kept, none_from, some_from, array_front, front_long, front_inside, sizes_fit, step_refused, smallest_kept, step_stuck, step_found, smallest_noted}
 use Rattle.exchange.proofs.exchanges.Exchange.step.Goals as goal
 
 pub returns-then-not-has_sizes : goal.returns-then-not-has_sizes
@@ -42,7 +42,7 @@ returns-in_default c =
     let h : j.ropes + length ms ≤ 32 = omega (arith, e.few, e.small, e.members.ok.0, z.0) in
     let d = c.deref.ensures.value in
     let k : c.size-size.result ≡ size_of P ms = c.size-size.ensures ∙ ap (size_of P) d in
-    let q = system_solved P ms c.deref.result.now c.size-size.result e.smallest c.fill_square.new.lines d k h c.fill_square.ensures in
+    let q = system_solved P ms c.deref.result.now c.size-size.result e.smallest c.fill_square.new.lines d k h (omega arith) c.fill_square.ensures in
     let n = none_from (solved_at P ms e.smallest).1 (sym c.in_default.is ∙ c.solve-solution.ensures.unknowns ∙ ap (λ (p : Pair). option_map padded p.1) q) in
     record {
       value = step_stuck P e.ropes e.rows ms e.smallest f n;
@@ -65,12 +65,12 @@ reading-choice-requires c =
     let h : j.ropes + length ms ≤ 32 = omega (arith, e.few, e.small, e.members.ok.0, z.0) in
     let d = c.deref.ensures.value in
     let k : c.size-size.result ≡ size_of P ms = c.size-size.ensures ∙ ap (size_of P) d in
-    let q = system_solved P ms c.deref.result.now c.size-size.result e.smallest c.fill_square.new.lines d k h c.fill_square.ensures in
+    let q = system_solved P ms c.deref.result.now c.size-size.result e.smallest c.fill_square.new.lines d k h (omega arith) c.fill_square.ensures in
     let X = c.in-Some.unknowns in
     let u = some_from (solved_at P ms e.smallest).1 X (sym c.in-Some.is ∙ c.solve-solution.ensures.unknowns ∙ ap (λ (p : Pair). option_map padded p.1) q) in
     let us = u.0 in
     let S : Option (List Float) → Type 0 = Solves c.size-size.result in
-    let w = subst S (ap (λ (p : Pair). p.1) q ∙ u.1.0) c.solve-solution.ensures.law in
+    let w = subst S (ap (λ (p : Pair). p.1) q ∙ u.1.0) (law_kept c.size-size.result c.fill_square.new.lines _ (omega arith) c.solve-solution.ensures.law) in
     record {
       all = front_long c.size-size.result us X u.1.1 w ∙ c.size-size.ensures;
       inside = λ i l. front_inside c.size-size.result us X u.1.1 w i (omega (arith, c.size-size.ensures));
@@ -103,12 +103,12 @@ returns c =
     let h : j.ropes + length ms ≤ 32 = omega (arith, e.few, e.small, e.members.ok.0, z.0) in
     let d = c.deref.ensures.value in
     let k : c.size-size.result ≡ size_of P ms = c.size-size.ensures ∙ ap (size_of P) d in
-    let q = system_solved P ms c.deref.result.now c.size-size.result e.smallest c.fill_square.new.lines d k h c.fill_square.ensures in
+    let q = system_solved P ms c.deref.result.now c.size-size.result e.smallest c.fill_square.new.lines d k h (omega arith) c.fill_square.ensures in
     let X = c.in-Some.unknowns in
     let u = some_from (solved_at P ms e.smallest).1 X (sym c.in-Some.is ∙ c.solve-solution.ensures.unknowns ∙ ap (λ (p : Pair). option_map padded p.1) q) in
     let us = u.0 in
     let S : Option (List Float) → Type 0 = Solves c.size-size.result in
-    let w = subst S (ap (λ (p : Pair). p.1) q ∙ u.1.0) c.solve-solution.ensures.law in
+    let w = subst S (ap (λ (p : Pair). p.1) q ∙ u.1.0) (law_kept c.size-size.result c.fill_square.new.lines _ (omega arith) c.solve-solution.ensures.law) in
     let r = array_front c.size-size.result us X u.1.1 w in
     let o = c.reading-choice.ensures.offer ∙ ap (λ (x : List Member). offered P x (take c.size-size.result X)) d ∙ ap (offered P ms) r in
     let L : Offer → Type 0 = λ y. OffersInside (problem_of j) (Found y c.reading-choice.result.1) in
