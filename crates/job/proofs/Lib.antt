@@ -1,4 +1,3 @@
-pub mod Bits
 pub mod Strides
 pub mod Given
 pub mod Reading

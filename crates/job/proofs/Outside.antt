@@ -15,9 +15,10 @@ use Rattle.job.specs.Rows.{outside, RowsMet, MetInside}
 use Rattle.terms.specs.Ticks.{excess, Near}
 use Rattle.duality.specs.Tests.{between}
 use Rattle.job.specs.declared.numbers.Job.{Job}
-use Rattle.job.proofs.Bits.{back, fits, back_of, small_of}
+use Rattle.terms.proofs.Bits.{back, fits, back_of, small_of}
 use Rattle.duality.proofs.Tests.{between_parts, between_from}
-use Rattle.job.proofs.Reading.{lo_small, hi_small, point_small, row_small}
+use Rattle.terms.proofs.Reading.{lo_small, hi_small, many_small}
+use Rattle.job.proofs.Reading.{row_small}
 
 pub excess_small : (low high s : ℤ) (b c : ℕ) → nat_abs low ≤ b → nat_abs high ≤ b → nat_abs s ≤ c → nat_abs (excess low high s) ≤ b + c
 unfolding excess
@@ -75,7 +76,7 @@ row_broken P z i e h = both_ways (keeps_row P z i) e (between_from (P.lo i) (P.h
 
 module _ (j : Job) (z : List ℤ) (p : many_within (problem_of j).ropes 32768 z ≡ true) where
   pub row_at_small : (i : ℕ) → nat_abs (row_at (problem_of j) (places z) i) ≤ 2 ^ 39
-  row_at_small i = row_small j (places z) 32768 i (point_small (problem_of j).ropes 32768 z p)
+  row_at_small i = row_small j (places z) 32768 i (many_small (problem_of j).ropes 32768 z p)
 
   pub row_back : (i : ℕ) (r : ℤ) → r ≡ row_at (problem_of j) (places z) i → back r ≡ row_at (problem_of j) (places z) i
   row_back i r e = back_of (2 ^ 39) r _ e (row_at_small i) (omega arith)
@@ -84,13 +85,13 @@ module _ (j : Job) (z : List ℤ) (p : many_within (problem_of j).ropes 32768 z 
   pub row_near : (i : ℕ) (low high s : ℤ) → low ≡ (problem_of j).lo i → high ≡ (problem_of j).hi i → s ≡ row_at (problem_of j) (places z) i → Near low high s
   row_near i low high s el eh es =
       record {
-        low_near = small_of 536870912 _ _ el (lo_small j i);
-        high_near = small_of 536870912 _ _ eh (hi_small j i);
+        low_near = small_of 536870912 _ _ el (lo_small j.terms i);
+        high_near = small_of 536870912 _ _ eh (hi_small j.terms i);
         sum_near = small_of (2 ^ 54) _ _ es (omega (arith, row_at_small i));
       }
 
   part_small : (i : ℕ) → nat_abs (outside_part j z i) ≤ 2 ^ 40
-  part_small i = omega (arith, excess_small ((problem_of j).lo i) ((problem_of j).hi i) (row_at (problem_of j) (places z) i) 536870912 (2 ^ 39) (lo_small j i) (hi_small j i) (row_at_small i))
+  part_small i = omega (arith, excess_small ((problem_of j).lo i) ((problem_of j).hi i) (row_at (problem_of j) (places z) i) 536870912 (2 ^ 39) (lo_small j.terms i) (hi_small j.terms i) (row_at_small i))
 
   pub turn_small : (i : ℕ) (t r : ℤ) → i ≤ (problem_of j).rows → t ≡ ∑ i (outside_part j z) → r ≡ outside_part j z i → nat_abs (t +ℤ back r) ≤ 2 ^ 46
   turn_small i t r l et er =

@@ -1,6 +1,6 @@
 -- What a job's methods read: its numbers are small, its places are there, and its strides are rows and columns.
 use Rattle.std.proofs.Common.{◌≡◌, ℕ, suc, ◌+◌, ◌*◌, ◌^◌, ◌<◌, ◌≤◌, Bool, true, eqb, List, length, ℤ, pos, ◌+ℤ◌, ◌*ℤ◌, nat_abs, Some, None, sym, ap, ◌∙◌, le_refl, mul-le-mul, add_comm, arith, lit<}
-use Rattle.std.proofs.lemmas.Bool.{and_parts, and_from, eqb-true, eq-eqb, le-leb, cond-true}
+use Rattle.std.proofs.lemmas.Bool.{and_from, eq-eqb, le-leb, cond-true}
 use Rattle.duality.specs.Lists.{places}
 use Rattle.duality.specs.Sums.{Vector, dot, row, column}
 use Rattle.duality.specs.Problem.{row_at}
@@ -13,78 +13,42 @@ use Rattle.job.specs.Points.{gradient}
 use Rattle.duality.specs.Tests.{many_within, answer}
 use Rattle.job.specs.Strides.{strided, Reads}
 use Rattle.job.specs.declared.numbers.Job.{Job}
-use Rattle.job.proofs.Bits.{back, place_back}
+use Rattle.terms.proofs.Reading.{many_long, many_small, c_small}
+use Rattle.terms.proofs.Bits.{back, item_back}
 use Rattle.duality.proofs.Tests.{within_at, all_from}
 
 -- a place of row i lies within a table of n rows and m columns
 pub place_within : (i n m k : ℕ) → i < n → k < m → i * m + k < n * m
 place_within i n m k l h = omega (arith, mul-le-mul {n₁ = suc i} {m₁ = m} {n₂ = n} {m₂ = m} (omega arith) (le_refl m))
 
-pub point_long : (n limit : ℕ) (z : List ℤ) → many_within n limit z ≡ true → length z ≡ n
-point_long n limit z e = eqb-true _ _ (and_parts (eqb (length z) n) (all_within limit z) e).0
-
-pub point_small : (n limit : ℕ) (z : List ℤ) → many_within n limit z ≡ true → (k : ℕ) → nat_abs (places z k) ≤ limit
-point_small n limit z e k = within_at limit z k (and_parts (eqb (length z) n) (all_within limit z) e).1
-
 module _ (j : Job) where
-  pub g_small : (k : ℕ) → nat_abs (places (j.g.items) k) ≤ 1048576
-  g_small k = within_at 1048576 (j.g.items) k j.matrix.1
+  pub g_small : (k : ℕ) → nat_abs (places j.g.items k) ≤ 1048576
+  g_small k = within_at 1048576 j.g.items k j.matrix.1
 
-  pub a_small : (k : ℕ) → nat_abs (places (j.a.items) k) ≤ 1048576
-  a_small k = within_at 1048576 (j.a.items) k j.weights.1
-
-  pub c_small : (k : ℕ) → nat_abs (places (j.terms.c.items) k) ≤ 268435456
-  c_small k = within_at 268435456 (j.terms.c.items) k j.terms.prices
-
-  pub lo_small : (k : ℕ) → nat_abs (places (j.terms.lo.items) k) ≤ 536870912
-  lo_small k = within_at 536870912 (j.terms.lo.items) k j.terms.floors
-
-  pub hi_small : (k : ℕ) → nat_abs (places (j.terms.hi.items) k) ≤ 536870912
-  hi_small k = within_at 536870912 (j.terms.hi.items) k j.terms.ceilings.1
-
-  pub l_small : (k : ℕ) → nat_abs (places (j.terms.l.items) k) ≤ 32768
-  l_small k = within_at 32768 (j.terms.l.items) k j.terms.lefts.1
-
-  pub u_small : (k : ℕ) → nat_abs (places (j.terms.u.items) k) ≤ 32768
-  u_small k = within_at 32768 (j.terms.u.items) k j.terms.rights.1
-
-  -- what is read of a list lent, as the next call takes it
-  pub c_at : (i : ℕ) (xs : List ℤ) → xs ≡ j.terms.c.items → back (places xs i) ≡ (problem_of j).c i
-  c_at i xs e = place_back 268435456 xs j.terms.c.items i e (c_small i) (lit< tt)
-
-  pub lo_at : (i : ℕ) (xs : List ℤ) → xs ≡ j.terms.lo.items → back (places xs i) ≡ (problem_of j).lo i
-  lo_at i xs e = place_back 536870912 xs j.terms.lo.items i e (lo_small i) (lit< tt)
-
-  pub hi_at : (i : ℕ) (xs : List ℤ) → xs ≡ j.terms.hi.items → back (places xs i) ≡ (problem_of j).hi i
-  hi_at i xs e = place_back 536870912 xs j.terms.hi.items i e (hi_small i) (lit< tt)
-
-  pub l_at : (i : ℕ) (xs : List ℤ) → xs ≡ j.terms.l.items → back (places xs i) ≡ (problem_of j).l i
-  l_at i xs e = place_back 32768 xs j.terms.l.items i e (l_small i) (lit< tt)
-
-  pub u_at : (i : ℕ) (xs : List ℤ) → xs ≡ j.terms.u.items → back (places xs i) ≡ (problem_of j).u i
-  u_at i xs e = place_back 32768 xs j.terms.u.items i e (u_small i) (lit< tt)
+  pub a_small : (k : ℕ) → nat_abs (places j.a.items k) ≤ 1048576
+  a_small k = within_at 1048576 j.a.items k j.weights.1
 
   pub a_there : (i k : ℕ) → i < (problem_of j).rows → k < (problem_of j).ropes → k * (problem_of j).rows + i < length j.a.items
   a_there i k l m = omega (arith, place_within k (problem_of j).ropes (problem_of j).rows i m l, j.weights.0)
 
   pub a_at : (i k : ℕ) (xs : List ℤ) → xs ≡ j.a.items → back (places xs (k * (problem_of j).rows + i)) ≡ (problem_of j).A i k
-  a_at i k xs e = place_back 1048576 xs j.a.items (k * (problem_of j).rows + i) e (a_small (k * (problem_of j).rows + i)) (lit< tt)
+  a_at i k xs e = item_back 1048576 xs j.a.items (k * (problem_of j).rows + i) e (a_small (k * (problem_of j).rows + i)) (lit< tt)
 
   pub g_there : (i k : ℕ) → i < (problem_of j).ropes → k < (problem_of j).ropes → i * (problem_of j).ropes + k < length j.g.items
   g_there i k l m = omega (arith, place_within i (problem_of j).ropes (problem_of j).ropes k l m, j.matrix.0)
 
   pub g_at : (i k : ℕ) (xs : List ℤ) → xs ≡ j.g.items → back (places xs (i * (problem_of j).ropes + k)) ≡ (problem_of j).G i k
-  g_at i k xs e = place_back 1048576 xs j.g.items (i * (problem_of j).ropes + k) e (g_small (i * (problem_of j).ropes + k)) (lit< tt)
+  g_at i k xs e = item_back 1048576 xs j.g.items (i * (problem_of j).ropes + k) e (g_small (i * (problem_of j).ropes + k)) (lit< tt)
 
 module _ (j : Job) (z : List ℤ) (limit : ℕ) (le : limit ≤ 1073741824) (p : many_within (problem_of j).ropes limit z ≡ true) where
   long : length z ≡ (problem_of j).ropes
-  long = point_long (problem_of j).ropes limit z p
+  long = many_long (problem_of j).ropes limit z p
 
   few : length z ≤ 16
   few = omega (arith, long, j.terms.some.1)
 
   small : (k : ℕ) → nat_abs (places z k) ≤ 1073741824
-  small k = omega (arith, point_small (problem_of j).ropes limit z p k)
+  small k = omega (arith, many_small (problem_of j).ropes limit z p k)
 
   -- m or n as the program asked for them
   pub reads_row : (i m : ℕ) (xs : List ℤ) → i < (problem_of j).rows → m ≡ (problem_of j).rows → xs ≡ j.a.items → Reads xs i m z
@@ -163,7 +127,7 @@ module _ (j : Job) (z : Vector) where
   pub gradient_small : (i : ℕ) → ((k : ℕ) → nat_abs (z k) ≤ 32768) → nat_abs (gradient (problem_of j) z i) ≤ 2 ^ 41
   gradient_small i h =
       let both = small_add (2 ^ 39) (2 ^ 39) (row (problem_of j).ropes (problem_of j).G z i) (column (problem_of j).ropes (problem_of j).G z i) (along_small i h) (across_small i h) in
-      let twice = small_mul 2 268435456 (pos 2) ((problem_of j).c i) (omega arith) (c_small j i) in
+      let twice = small_mul 2 268435456 (pos 2) ((problem_of j).c i) (omega arith) (c_small j.terms i) in
       omega (
         arith,
         small_add (2 ^ 39 + 2 ^ 39) (2 * 268435456) (row (problem_of j).ropes (problem_of j).G z i +ℤ column (problem_of j).ropes (problem_of j).G z i) (pos 2 *ℤ (problem_of j).c i) both twice,
@@ -171,8 +135,8 @@ module _ (j : Job) (z : Vector) where
 
 pub wider : (n : ℕ) (z : List ℤ) → many_within n 32768 z ≡ true → many_within n 1073741824 z ≡ true
 wider n z e =
-    and_from (eqb (length z) n) (all_within 1073741824 z) (eq-eqb _ _ (point_long n 32768 z e))
-    (all_from (λ k. within 1073741824 (places z k)) (length z) (λ k _. le-leb _ _ (omega (arith, point_small n 32768 z e k))))
+    and_from (eqb (length z) n) (all_within 1073741824 z) (eq-eqb _ _ (many_long n 32768 z e))
+    (all_from (λ k. within 1073741824 (places z k)) (length z) (λ k _. le-leb _ _ (omega (arith, many_small n 32768 z e k))))
 
 pub answered : {X : Type 0} (b : Bool) (v w : X) → b ≡ true → w ≡ v → Some w ≡ answer b v
 answered b v w e f = ap Some f ∙ sym (cond-true b (Some v) None e)

@@ -10,8 +10,9 @@ use Rattle.job.specs.Numbers.{problem_of}
 use Rattle.job.specs.Points.{gradient}
 use Rattle.duality.specs.Tests.{many_within}
 use Rattle.job.specs.declared.numbers.Job.{Job}
-use Rattle.job.proofs.Bits.{back, fits, back_is, back_of, small_of}
-use Rattle.job.proofs.Reading.{c_small, point_small, along_small, across_small, gradient_small}
+use Rattle.terms.proofs.Bits.{back, fits, back_is, back_of, small_of}
+use Rattle.terms.proofs.Reading.{c_small, many_small}
+use Rattle.job.proofs.Reading.{along_small, across_small, gradient_small}
 
 -- rope i's part of the cost
 abbrev pub cost_part : Job → List ℤ → Vector
@@ -19,7 +20,7 @@ cost_part j z i = places z i *ℤ (row (problem_of j).ropes (problem_of j).G (pl
 
 module _ (j : Job) (z : List ℤ) (p : many_within (problem_of j).ropes 32768 z ≡ true) where
   small : (k : ℕ) → nat_abs (places z k) ≤ 32768
-  small = point_small (problem_of j).ropes 32768 z p
+  small = many_small (problem_of j).ropes 32768 z p
 
   -- the sums along row i and down column i of G, as the next call takes them
   pub along_back : (i : ℕ) (r : ℤ) → r ≡ row (problem_of j).ropes (problem_of j).G (places z) i → back r ≡ row (problem_of j).ropes (problem_of j).G (places z) i
@@ -35,7 +36,7 @@ module _ (j : Job) (z : List ℤ) (p : many_within (problem_of j).ropes 32768 z 
       (along_small j (places z) i small) (across_small j (places z) i small))
 
   twice_small : (i : ℕ) (v : ℤ) → v ≡ (problem_of j).c i → nat_abs (pos 2 *ℤ v) ≤ 2 ^ 29
-  twice_small i v e = rw e (small_mul 2 268435456 (pos 2) ((problem_of j).c i) (omega arith) (c_small j i))
+  twice_small i v e = rw e (small_mul 2 268435456 (pos 2) ((problem_of j).c i) (omega arith) (c_small j.terms i))
 
   pub twice_fits : (i : ℕ) (v : ℤ) → v ≡ (problem_of j).c i → SFits w64 (pos 2 *ℤ v)
   twice_fits i v e = fits (2 ^ 29) _ (twice_small i v e) (lit< tt)
@@ -57,7 +58,7 @@ module _ (j : Job) (z : List ℤ) (p : many_within (problem_of j).ropes 32768 z 
   -- the cost
   slope_small : (i : ℕ) → nat_abs (row (problem_of j).ropes (problem_of j).G (places z) i +ℤ pos 2 *ℤ (problem_of j).c i) ≤ 2 ^ 40
   slope_small i =
-      let twice = small_mul 2 268435456 (pos 2) ((problem_of j).c i) (omega arith) (c_small j i) in
+      let twice = small_mul 2 268435456 (pos 2) ((problem_of j).c i) (omega arith) (c_small j.terms i) in
       omega (
         arith,
         small_add (2 ^ 39) (2 * 268435456) (row (problem_of j).ropes (problem_of j).G (places z) i) (pos 2 *ℤ (problem_of j).c i) (along_small j (places z) i small) twice,
@@ -73,14 +74,14 @@ module _ (j : Job) (z : List ℤ) (p : many_within (problem_of j).ropes 32768 z 
     pub slope_back : back (x +ℤ back (pos 2 *ℤ v)) ≡ row (problem_of j).ropes (problem_of j).G (places z) i +ℤ pos 2 *ℤ (problem_of j).c i
     slope_back = back_of (2 ^ 40) _ _ slope_is (slope_small i) (lit< tt)
 
-  pub place_back : (i : ℕ) → back (places z i) ≡ places z i
-  place_back i = back_is 32768 _ (small i) (omega arith)
+  pub item_back : (i : ℕ) → back (places z i) ≡ places z i
+  item_back i = back_is 32768 _ (small i) (omega arith)
 
   part_small : (i : ℕ) → nat_abs (cost_part j z i) ≤ 2 ^ 55
   part_small i = small_mul 32768 (2 ^ 40) (places z i) (row (problem_of j).ropes (problem_of j).G (places z) i +ℤ pos 2 *ℤ (problem_of j).c i) (small i) (slope_small i)
 
   product_is : (i : ℕ) (s : ℤ) → s ≡ row (problem_of j).ropes (problem_of j).G (places z) i +ℤ pos 2 *ℤ (problem_of j).c i → back (places z i) *ℤ s ≡ cost_part j z i
-  product_is i s e = let b = place_back i in cc
+  product_is i s e = let b = item_back i in cc
 
   pub product_fits : (i : ℕ) (s : ℤ) → s ≡ row (problem_of j).ropes (problem_of j).G (places z) i +ℤ pos 2 *ℤ (problem_of j).c i → SFits w64 (back (places z i) *ℤ s)
   product_fits i s e = fits (2 ^ 55) _ (small_of (2 ^ 55) _ _ (product_is i s e) (part_small i)) (lit< tt)

@@ -5,7 +5,7 @@ use Rattle.duality.specs.Sums.{dot}
 use Rattle.duality.proofs.Sizes.{small_mul, small_dot}
 use Rattle.duality.proofs.Sums.{∑-more}
 use Rattle.job.specs.Strides.{strided, Reads}
-use Rattle.job.proofs.Bits.{back, fits, back_is, back_of, small_of}
+use Rattle.terms.proofs.Bits.{back, fits, back_is, back_of, small_of}
 
 module _ (xs : List ℤ) (start stride : ℕ) (z : List ℤ) (h : Reads xs start stride z) where
   part_small : (k : ℕ) → k ≤ length z → nat_abs (dot k (strided xs start stride) (places z)) ≤ 16 * (1048576 * 1073741824)

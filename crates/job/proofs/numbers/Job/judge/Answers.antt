@@ -4,8 +4,9 @@ use Rattle.duality.specs.Lists.{places}
 use Rattle.job.specs.Numbers.{problem_of}
 use Rattle.terms.specs.Findings.{keeps_row, finding}
 use Rattle.duality.specs.Tests.{first_not}
-use Rattle.job.proofs.Bits.{back_of}
-use Rattle.job.proofs.Reading.{point_small, row_small, hi_at, lo_at}
+use Rattle.terms.proofs.Bits.{back_of}
+use Rattle.terms.proofs.Reading.{many_small, hi_item, lo_item}
+use Rattle.job.proofs.Reading.{row_small}
 use Rattle.duality.proofs.Tests.{first_more, first_at, first_none}
 use Rattle.job.proofs.Outside.{meets_is, row_met, row_broken}
 use Rattle.job.proofs.numbers.Job.judge.Goals as goal
@@ -18,10 +19,10 @@ pub returns-then-not-between : goal.returns-then-not-between
 returns-then-not-between c =
     let p = sym c.if-not-is_point.ensures in
     let l : c.loop-i.i < (problem_of c.args.self.now).rows = omega (arith, c.loop-i-test.true, ap length c.deref-lo-items.ensures.0) in
-    let lo = lo_at c.args.self.now c.loop-i.i _ c.deref-lo-items.ensures.0 in
-    let hi = hi_at c.args.self.now c.loop-i.i _ c.deref.ensures.0 in
+    let lo = lo_item c.args.self.now.terms c.loop-i.i _ c.deref-lo-items.ensures.0 in
+    let hi = hi_item c.args.self.now.terms c.loop-i.i _ c.deref.ensures.0 in
     let s = back_of (2 ^ 54) c.row_at.result _ c.row_at.ensures (row_small c.args.self.now (places c.args.z.now) 1073741824 c.loop-i.i
-    (point_small _ 1073741824 c.args.z.now p)) (lit< tt) in
+    (many_small _ 1073741824 c.args.z.now p)) (lit< tt) in
     let no' = meets_is c.args.self.now c.args.z.now c.loop-i.i _ _ _ false lo hi s c.if-not-between.ensures in
     let P = problem_of c.args.self.now in
     let x = places c.args.z.now in
@@ -34,10 +35,10 @@ pub loop-i-preserved : goal.loop-i-preserved
 loop-i-preserved c =
     let p = sym c.if-not-is_point.ensures in
     let l : c.loop-i.i < (problem_of c.args.self.now).rows = omega (arith, c.loop-i-test.true, ap length c.deref-lo-items.ensures.0) in
-    let lo = lo_at c.args.self.now c.loop-i.i _ c.deref-lo-items.ensures.0 in
-    let hi = hi_at c.args.self.now c.loop-i.i _ c.deref.ensures.0 in
+    let lo = lo_item c.args.self.now.terms c.loop-i.i _ c.deref-lo-items.ensures.0 in
+    let hi = hi_item c.args.self.now.terms c.loop-i.i _ c.deref.ensures.0 in
     let s = back_of (2 ^ 54) c.row_at.result _ c.row_at.ensures (row_small c.args.self.now (places c.args.z.now) 1073741824 c.loop-i.i
-    (point_small _ 1073741824 c.args.z.now p)) (lit< tt) in
+    (many_small _ 1073741824 c.args.z.now p)) (lit< tt) in
     first_more (keeps_row (problem_of c.args.self.now) (places c.args.z.now)) c.loop-i.i c.loop-i.invariant
     (meets_is c.args.self.now c.args.z.now c.loop-i.i _ _ _ true lo hi s c.if-not-between.ensures)
 
