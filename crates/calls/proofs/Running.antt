@@ -1,12 +1,14 @@
 -- Sequences of calls as histories, and the law of a whole run.
-use Rattle.std.proofs.Common.{◌≡◌, ℕ, zero, suc, List, [], ◌∷◌, length, ℤ, Some, Ok, refl, arith}
+use Rattle.std.proofs.Common.{◌≡◌, ℕ, zero, suc, List, [], ◌∷◌, length, ℤ, Some, Ok, sym, refl, ap, ◌∙◌, subst, arith}
 use Rattle.calls.specs.declared.answers.Shown.{Shown}
 use Rattle.calls.specs.States.{State}
 use Rattle.calls.specs.Steps.{show_answer, shown_in}
-use Rattle.calls.specs.Histories.{Call, offer, amend, solve, show, reached}
+use Rattle.calls.specs.Opened.{opened}
+use Rattle.calls.specs.Histories.{Call, offer, amend, solve, show, after, reached}
 use Rattle.calls.specs.Honesty.{Fair}
-use Rattle.calls.specs.Runs.{Reply, showed, reply, replies, after_all, first_calls, nth, HonestRun}
-use Rattle.calls.proofs.Showing.{show_law}
+use Rattle.calls.specs.Runs.{Reply, showed, reply, replies, after_all, first_calls, nth, HonestRun, RunLaw, LeavesAfter, AsOne}
+use Rattle.calls.proofs.Opened.{opened_fair}
+use Rattle.calls.proofs.Showing.{show_honest}
 
 pub after_all_lem : (s : State) (past calls : List Call) → after_all (reached s past) calls ≡ reached s (first_calls calls (length calls) past)
 after_all_lem s past [] = refl
@@ -35,10 +37,31 @@ was_show t (amend m) r z e = let n : ◌≡◌ {A = ℕ} 0 1 = cc in absurd (ome
 was_show t (solve steps moves) r z e = let n : ◌≡◌ {A = ℕ} 0 1 = cc in absurd (omega arith)
 was_show t (show out) r z e = record { out = out; answer = cc; list = cc }
 
-pub run_law : (s : State) (calls : List Call) → Fair s → HonestRun s calls (replies s calls)
-run_law s calls fair k r z e =
-    let past = first_calls calls k [] in
-    let t = reached s past in
-    let at = nth_reply s [] calls k (showed (Ok r) z) e in
+-- from any fair start
+pub run_honest : (s : State) (past calls : List Call) → Fair s → HonestRun s past calls (replies (reached s past) calls)
+run_honest s past calls fair k r z e =
+    let before = first_calls calls k past in
+    let t = reached s before in
+    let at = nth_reply s past calls k (showed (Ok r) z) e in
     let asked = was_show t at.0 r z at.1 in
-    show_law t asked.out (Ok r) z asked.answer asked.list s past fair refl r refl
+    show_honest t asked.out (Ok r) z asked.answer asked.list s before fair refl r refl
+
+-- a plan just opened is a fair start
+pub run_law : (t : State) (calls : List Call) → RunLaw t calls (replies t calls)
+run_law t calls g a x past s =
+    subst (λ (u : State). HonestRun (opened g a x) past calls (replies u calls)) s.stands (run_honest (opened g a x) past calls (opened_fair g a x s.opens))
+
+pub leaves_after : (t : State) (calls : List Call) → LeavesAfter t calls (after_all t calls)
+leaves_after t calls g a x past s =
+    record {
+      opens = s.opens;
+      stands = sym (after_all_lem (opened g a x) past calls) ∙ ap (λ (u : State). after_all u calls) s.stands;
+    }
+
+-- two runs as one
+
+pub as_one : (s : State) (ms ns : List Call) → AsOne s ms ns
+as_one s [] ns = record { answers = refl; leaves = refl }
+as_one s (m ∷ ms) ns =
+    let rest = as_one (after s m) ms ns in
+    record { answers = ap (λ (rs : List Reply). reply s m ∷ rs) rest.answers; leaves = rest.leaves }

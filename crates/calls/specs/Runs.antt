@@ -1,5 +1,7 @@
 -- Any sequence of calls, the first call first, with the answers to all of them.
-use Rattle.std.specs.Prelude.{◌≡◌, ℕ, zero, suc, List, [], ◌∷◌, length, ℤ, Some, None, Ok, Option, Result}
+use Rattle.std.specs.Prelude.{◌≡◌, ℕ, zero, suc, List, [], ◌∷◌, ◌++◌, length, ℤ, Some, None, Ok, Option, Result}
+use Rattle.table.specs.Grid.{Grid}
+use Rattle.opening.specs.Opening.{Numbers}
 use Rattle.opening.specs.declared.refusal.Refusal.{Refusal}
 use Rattle.calls.specs.declared.answers.Dropped.{Dropped}
 use Rattle.calls.specs.declared.answers.Report.{Report}
@@ -10,7 +12,8 @@ use Rattle.calls.specs.Steps.{unless, point_answer, pair_answer, proof_answer, a
 use Rattle.calls.specs.Offers.{Offer, point, pair, proof}
 use Rattle.calls.specs.Solving.{solve_refusal, report}
 use Rattle.calls.specs.Histories.{Call, offer, amend, solve, show, after, Offered}
-use Rattle.calls.specs.Honesty.{Honest, problem_after}
+use Rattle.calls.specs.Opened.{opened}
+use Rattle.calls.specs.Honesty.{Honest, StandsAfter, problem_after}
 
 -- an answer, and of a show the list handed over, as it is then
 pub data Reply : Type 0 where
@@ -50,8 +53,27 @@ nth [] k = None
 nth (x ∷ xs) zero = Some x
 nth (x ∷ xs) (suc k) = nth xs k
 
--- Law of a whole run: every show that is not refused is honest about the problem in force and the offers made by then.
-abbrev pub HonestRun : State → List Call → List Reply → Type 0
-HonestRun s calls answers =
+-- Law of a whole run, made after the calls of a history: every show that is not refused is honest about the problem in force and the offers made by then,
+-- those of the history among them.
+abbrev pub HonestRun : State → List Call → List Call → List Reply → Type 0
+HonestRun s past calls answers =
     (k : ℕ) (r : Shown) (z : List ℤ) → nth answers k ≡ Some (showed (Ok r) z)
-    → Honest (problem_after s (first_calls calls k [])) (Offered s (first_calls calls k [])) r z
+    → Honest (problem_after s (first_calls calls k past)) (Offered s (first_calls calls k past)) r z
+
+-- Law of a run on a plan at t: whatever opening and whatever calls led there, the run is honest about all of it.
+abbrev pub RunLaw : State → List Call → List Reply → Type 0
+RunLaw t calls answers =
+    (g a : Grid) (x : Numbers) (past : List Call) → StandsAfter g a x past t → HonestRun (opened g a x) past calls answers
+
+-- Law of where a run leaves a plan: its calls are the latest of the history then.
+abbrev pub LeavesAfter : State → List Call → State → Type 0
+LeavesAfter t calls u =
+    (g a : Grid) (x : Numbers) (past : List Call) → StandsAfter g a x past t → StandsAfter g a x (first_calls calls (length calls) past) u
+
+-- Law: two runs, one after the other, answer and leave what the one run of both lists does.
+pub record AsOne (s : State) (ms ns : List Call) : Type 0 where
+  pub answers : replies s (ms ++ ns) ≡ replies s ms ++ replies (after_all s ms) ns
+  pub leaves : after_all s (ms ++ ns) ≡ after_all (after_all s ms) ns
+
+abbrev pub RunsCompose : Type 0
+RunsCompose = (s : State) (ms ns : List Call) → AsOne s ms ns

@@ -1,7 +1,13 @@
 //! The law of whole histories, which the proofs of the crates above cite.
 ghost use Rattle.calls.specs.Honesty.{AlwaysLawful};
+ghost use Rattle.calls.specs.Runs.{RunsCompose};
 
 /// Whatever calls are made on a fair plan, refused ones included, what it holds stays lawful, and it never holds a point together with a proof of none.
 pub fn held_is_lawful()
     ensures { AlwaysLawful }
+{}
+
+/// Two runs of calls on one plan answer and leave what the one run of all their calls does.
+pub fn runs_compose()
+    ensures { RunsCompose }
 {}

@@ -11,18 +11,15 @@ use Rattle.opening.specs.Opening.{Numbers, open_fault}
 use Rattle.calls.specs.declared.answers.Shown.{Shown}
 use Rattle.calls.specs.States.{State}
 use Rattle.calls.specs.Opened.{opened}
-use Rattle.calls.specs.Honesty.{Fair}
 use Rattle.calls.specs.Histories as calls
 use Rattle.calls.specs.Histories.{after}
 use Rattle.calls.specs.Steps.{show_answer, shown_in}
-use Rattle.calls.specs.Runs.{Reply, showed, reply, replies, after_all, first_calls, HonestRun}
+use Rattle.calls.specs.Runs.{Reply, showed, reply, replies, after_all, HonestRun, RunLaw, LeavesAfter}
 use Rattle.session.specs.declared.asks.Answer.{Answer}
 use Rattle.session.specs.declared.asks.Call.{Call}
 use Rattle.session.specs.Said.{call_of, reply_of}
-use Rattle.session.specs.Answering.{AnswersCall, AnswersCalls, AnswersSession, HonestAnswers}
-use Rattle.calls.proofs.Keeping.{reached_fair}
-use Rattle.calls.proofs.Running.{run_law, run_reached}
-use Rattle.calls.proofs.Opened.{opened_fair}
+use Rattle.session.specs.Answering.{AnswersCall, AnswersCalls, AnswersSession, HonestAnswers, LeftAfter, HonestSession}
+use Rattle.calls.proofs.Running.{run_law, leaves_after}
 
 -- a list lent as a slice and given back
 pub refilled : (n : ℕ) (last items : List ℤ) → n ≡ length last → take n (last ++ drop (length last) items) ≡ last
@@ -92,15 +89,11 @@ turn_short s calls i xs t u e (Ok v) h ans err turn = absurd err
 turn_short s calls i xs t u e (Err f) h ans err turn = (err ∙ ans.0, (i, rw length-map h, ans.1 ∙ turn.left))
 
 -- the law goes with the replies
-pub run_honest : (s : State) (ms : List calls.Call) (rs : List Reply) → rs ≡ replies s ms → Fair s → HonestRun s ms rs
-run_honest s ms rs e fair = subst (HonestRun s ms) (sym e) (run_law s ms fair)
+pub run_honest : (s : State) (ms : List calls.Call) (rs : List Reply) → rs ≡ replies s ms → RunLaw s ms rs
+run_honest s ms rs e = subst (RunLaw s ms) (sym e) (run_law s ms)
 
-all_fair : (s : State) (ms : List calls.Call) → Fair s → Fair (after_all s ms)
-all_fair s ms fair = subst Fair (sym (run_reached s ms)) (reached_fair s (first_calls ms (length ms) []) fair)
-
-pub run_fair : (s t : State) (ms : List calls.Call) (r : Result (Vec Answer) Refusal) → AnswersCalls s ms r t → Fair s → Fair t
-run_fair s t ms (Ok v) h fair = subst Fair (sym h.1) (all_fair s ms fair)
-run_fair s t ms (Err e) h fair = subst Fair (sym h.1.2) (all_fair s (take h.1.0 ms) fair)
+pub run_left : (s t : State) (ms : List calls.Call) → t ≡ after_all s ms → LeavesAfter s ms t
+run_left s t ms e = subst (LeavesAfter s ms) (sym e) (leaves_after s ms)
 
 -- from the plan just opened
 
@@ -110,5 +103,6 @@ session_answers g a x ms s t (Ok v) e es h = (e, h.0 ∙ ap (λ (u : State). rep
 session_answers g a x ms s t (Err f) e es h = inr (e, h.0)
 
 pub session_honest : (g a : Grid) (x : Numbers) (ms : List calls.Call) (s : State) (r : Result (Vec Answer) Refusal) → open_fault g a x ≡ None → s ≡ opened g a x
-    → (Fair s → HonestAnswers s ms r) → HonestAnswers (opened g a x) ms r
-session_honest g a x ms s r e es h = subst (λ (u : State). HonestAnswers u ms r) es (h (subst Fair (sym es) (opened_fair g a x e)))
+    → HonestAnswers s ms r → HonestSession (opened g a x) ms r
+session_honest g a x ms s (Ok v) e es h = h g a x [] (record { opens = e; stands = sym es })
+session_honest g a x ms s (Err f) e es h = tt

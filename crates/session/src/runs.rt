@@ -1,10 +1,9 @@
 //! Calls made in turn.
 ghost use Rattle.std.specs.Prelude.{map};
 ghost use Rattle.calls.specs.Histories.{solve};
-ghost use Rattle.calls.specs.Honesty.{Fair};
 ghost use Rattle.plan.specs.View.{view};
 ghost use Rattle.session.specs.Said.{call_of};
-ghost use Rattle.session.specs.Answering.{AnswersCall, AnswersCalls, HonestAnswers};
+ghost use Rattle.session.specs.Answering.{AnswersCall, AnswersCalls, HonestAnswers, LeftAfter};
 
 use crate::asks::{Answer, Call};
 use opening::Refusal;
@@ -51,8 +50,8 @@ fn make<G: Table, A: Table>(
 
 /// Makes the calls in turn, and gives one answer for each. A call that is refused is answered like any other, and the run goes on.
 ///
-/// Answers and plan are, call by call, those of the definitions. A fair plan, as every newly opened one is, stays fair,
-/// and what each show of the run tells is honest about the numbers in force by then and the offers made since the last amendment.
+/// Answers and plan are, call by call, those of the definitions. Whatever opening and whatever calls led to the plan, what each show of the run tells
+/// is honest about the numbers in force by then and the offers made since the last amendment, those of earlier runs among them.
 /// The room for the answers is taken before the first call. Only want of memory ends a run early, with the plan as some first calls left it.
 pub fn run<G: Table, A: Table>(
     plan: &mut Plan<G, A>,
@@ -61,9 +60,8 @@ pub fn run<G: Table, A: Table>(
 ) -> Result<Vec<Answer>, Refusal>
     ensures value { AnswersCalls (view G.Table.meant A.Table.meant plan.old) (map call_of calls.now) result
         (view G.Table.meant A.Table.meant plan.new) }
-    ensures fair { Fair (view G.Table.meant A.Table.meant plan.old) → Fair (view G.Table.meant A.Table.meant plan.new) }
-    ensures law { Fair (view G.Table.meant A.Table.meant plan.old)
-        → HonestAnswers (view G.Table.meant A.Table.meant plan.old) (map call_of calls.now) result }
+    ensures law { HonestAnswers (view G.Table.meant A.Table.meant plan.old) (map call_of calls.now) result }
+    ensures left { LeftAfter (view G.Table.meant A.Table.meant plan.old) (map call_of calls.now) result (view G.Table.meant A.Table.meant plan.new) }
 {
     let mut answers = Vec::with_capacity(heap, calls.len())?;
     // A collect would take memory between the calls.

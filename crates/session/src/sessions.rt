@@ -3,7 +3,7 @@ ghost use Rattle.std.specs.Prelude.{map};
 ghost use Rattle.opening.specs.Opening.{numbers_of};
 ghost use Rattle.calls.specs.Opened.{opened};
 ghost use Rattle.session.specs.Said.{call_of};
-ghost use Rattle.session.specs.Answering.{AnswersSession, HonestAnswers};
+ghost use Rattle.session.specs.Answering.{AnswersSession, HonestSession};
 
 use crate::asks::{Answer, Call};
 use crate::runs::run;
@@ -31,7 +31,7 @@ pub fn session<G: Table + Drop, A: Table + Drop>(
     calls: &[Call],
 ) -> Result<Vec<Answer>, Refusal>
     ensures value { AnswersSession (G.Table.meant g) (A.Table.meant a) (numbers_of lists.now) (map call_of calls.now) result }
-    ensures law { HonestAnswers (opened (G.Table.meant g) (A.Table.meant a) (numbers_of lists.now)) (map call_of calls.now) result }
+    ensures law { HonestSession (opened (G.Table.meant g) (A.Table.meant a) (numbers_of lists.now)) (map call_of calls.now) result }
 {
     let mut plan = Plan::open(heap, g, a, lists)?;
     run(&mut plan, heap, calls)

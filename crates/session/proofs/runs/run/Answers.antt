@@ -1,7 +1,8 @@
-use Rattle.std.proofs.Common.{Ok, vec_items, arith}
+use Rattle.std.proofs.Common.{map, vec_items, arith}
 use Rattle.std.proofs.lemmas.Result.{IfOk-from_err}
 use Rattle.plan.specs.View.{view}
-use Rattle.session.proofs.Turns.{turn_none, turn_more, turn_short, turn_all, run_honest, run_fair}
+use Rattle.session.specs.Said.{call_of}
+use Rattle.session.proofs.Turns.{turn_none, turn_more, turn_short, turn_all, run_honest, run_left}
 use Rattle.session.proofs.runs.run.Goals as goal
 
 pub loop-call-init : goal.loop-call-init
@@ -31,11 +32,11 @@ returns-in_err-answer g c =
     let r = c.from_residual-in_err-answer.result in
     let k = c.from_residual-in_err-answer.ensures in
     let value = turn_short s c.args.calls.now c.loop-call.call-index (vec_items c.loop-call.answers) t u c.in_err-answer.field-0.0 r (omega arith) c.in_err-answer.ensures k.1 c.loop-call.invariant.2 in
-    record { value = value; fair = run_fair s u _ r value; law = λ _. IfOk-from_err r _ k.0 }
+    record { value = value; law = IfOk-from_err r _ k.0; left = IfOk-from_err r _ k.0 }
 
 pub returns : goal.returns
 returns g c =
     let s = view g.G.Table.meant g.A.Table.meant c.args.plan.now in
     let t = view g.G.Table.meant g.A.Table.meant c.loop-call.plan in
     let all = turn_all s c.args.calls.now c.loop-call.call-index (vec_items c.loop-call.answers) t c.loop-call-test.false c.loop-call.invariant.2 in
-    record { value = all; fair = run_fair s t _ (Ok c.loop-call.answers) all; law = run_honest s _ _ all.0 }
+    record { value = all; law = run_honest s _ _ all.0; left = run_left s t (map call_of c.args.calls.now) all.1 }
