@@ -1,14 +1,9 @@
 -- The definitions of breaches and choices, case by case.
-use Rattle.std.proofs.Common.{◌≡◌, ℕ, ◌+◌, ◌^◌, ◌<◌, ◌≤◌, true, false, ltb, List, ◌∷◌, length, drop, ℤ, pos, nat_abs, vec_items, sym, refl, ap, ◌∙◌, le_refl, le-ltb, lt-ltb}
+use Rattle.std.proofs.Common.{◌≡◌, ℕ, ◌+◌, ◌<◌, ◌≤◌, true, false, ltb, List, ◌∷◌, length, drop, ℤ, pos, sym, ap, ◌∙◌, le-ltb, lt-ltb}
 use lib.Signed.{lt_z}
 use Rattle.duality.specs.Lists.{places}
-use Rattle.duality.specs.Problem.{Problem, row_at}
-use Rattle.job.specs.Numbers.{problem_of}
-use Rattle.duality.specs.Tests.{many_within}
+use Rattle.duality.specs.Problem.{Problem}
 use Rattle.terms.specs.Ticks.{excess}
-use Rattle.job.specs.declared.numbers.Job.{Job}
-use Rattle.job.proofs.Reading.{reads_row, row_is}
-use Rattle.job.proofs.Strides.{dot_small}
 use Rattle.exchange.specs.Members.{low, high}
 use Rattle.exchange.specs.Systems.{member_at}
 use Rattle.exchange.specs.Breaches.{holds, value_at, side_of, breach, worse, worst, upto}
@@ -20,12 +15,6 @@ use Rattle.exchange.specs.declared.members.Breach.{Breach}
 use Rattle.exchange.specs.declared.members.Wrong.{Wrong}
 use Rattle.exchange.specs.declared.members.Choice.TheVariants.{Enter, Leave, Full, Done}
 use Rattle.exchange.proofs.Folds.{upto_more, next_here}
-
-pub row_small : (j : Job) (z : List ℤ) (i : ℕ) → many_within j.ropes 1073741824 z ≡ true → i < j.rows → nat_abs (row_at (problem_of j) (places z) i) ≤ 2 ^ 54
-row_small j z i p l =
-    let r = reads_row j z 1073741824 (le_refl 1073741824) p i (vec_items j.a) l refl in
-    let e = row_is j z 1073741824 (le_refl 1073741824) p i (vec_items j.a) refl in
-    rw (← e) (dot_small (vec_items j.a) i j.rows z r)
 
 pub breach_is : (P : Problem) (z : List ℤ) (v : Limit) (t : ℤ) (sd : Side) → t ≡ excess (low P v) (high P v) (value_at P z v) → sd ≡ side_of (low P v) (value_at P z v) →
     ◌≡◌ {A = Breach} (record { ticks = t; member = record { limit = v; side = sd } }) (breach P z v)

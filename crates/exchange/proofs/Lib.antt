@@ -4,8 +4,9 @@ pub mod Folds
 pub mod Choosing
 pub mod Readings
 pub mod Sets
-pub mod Following
+pub mod Searches
+pub mod Meanings
 pub mod Stepping
 pub mod Running
 pub mod Offering
-pub mod Worst
+pub mod Lawful

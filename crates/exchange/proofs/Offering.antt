@@ -48,10 +48,10 @@ multipliers_inside P ms ys =
     let e : places (multipliers P ms ys) k ≡ f k = get_or-map-range_with_len f 0 m k k (pos 0) (omega arith) (omega arith) in
     le-leb (nat_abs (places (multipliers P ms ys) k)) 16777216 (omega (arith, ap nat_abs e, pressure_small ms ys (Row k)))))
 
-pub point_inside : (j : Job) (us : List Float) → j.ropes ≤ length us → InBounds (problem_of j) (take j.ropes (filled 16 (inside_bounds (problem_of j) (pulls_of (problem_of j) us))))
+pub point_inside : (j : Job) (us : List Float) → (problem_of j).ropes ≤ length us → InBounds (problem_of j) (take (problem_of j).ropes (filled 16 (inside_bounds (problem_of j) (pulls_of (problem_of j) us))))
 point_inside j us h =
     let P = problem_of j in
-    let n = j.ropes in
+    let n = (problem_of j).ropes in
     let z = pulls_of P us in
     let y = inside_bounds P z in
     let g : ℕ → ℤ = λ k. held (P.l k) (P.u k) (places z k) in
@@ -63,6 +63,6 @@ point_inside j us h =
     (held_in_bounds j z y n lz (ly ∙ sym lz) (le_refl n)
     (λ k l. get_or-map-range_with_len g 0 n k k (pos 0) l (omega arith), λ k l. get_or_past y k (pos 0) (omega arith) ∙ sym (get_or_past z k (pos 0) (omega arith))))
 
-pub offered_inside : (j : Job) (ms : List Member) (us : List Float) (ch : Choice) → j.ropes ≤ length us → OffersInside (problem_of j) (Found (offered (problem_of j) ms us) ch)
+pub offered_inside : (j : Job) (ms : List Member) (us : List Float) (ch : Choice) → (problem_of j).ropes ≤ length us → OffersInside (problem_of j) (Found (offered (problem_of j) ms us) ch)
 unfolding offered
 offered_inside j ms us ch h = (point_inside j us h, multipliers_inside (problem_of j) ms (pressures_of (problem_of j) us))

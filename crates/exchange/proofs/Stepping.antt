@@ -1,20 +1,21 @@
 -- A step, put together from its system, its reading and its choice.
-use Rattle.std.proofs.Common.{◌≡◌, ℕ, ◌+◌, ◌<◌, ◌≤◌, true, false, eqb, leb, List, length, take, Some, None, Option, refl, ap, ◌∙◌, subst, arith, eqb-true, le-leb, sym}
+use Rattle.std.proofs.Common.{Bool, true, false, cond, ◌≡◌, ℕ, zero, suc, ◌+◌, ◌<◌, ◌≤◌, leb, List, length, take, Some, None, Option, sym, refl, ap, ◌∙◌, subst, arith, le-leb}
 use lib.Ieee.{Float}
 use Rattle.std.proofs.lemmas.List.{take_at, length-take-le}
-use Rattle.std.proofs.lemmas.Bool.{and_parts}
 use Rattle.std.specs.Option.{option_map}
 use Rattle.duality.specs.Problem.{Problem}
-use Rattle.job.specs.Numbers.{has_sizes}
-use Rattle.elimination.specs.Lines.{seen, at, inside, solved, solved_in, padded, Solves}
+use Rattle.elimination.specs.Lines.{largest, seen, at, inside, lesser, takable, pivot_of, column_done, columns_done, Triangle, triangle_of, unknowns_of, solved, solved_in, padded, Solves}
 use Rattle.elimination.proofs.Seen.{solved_seen}
 use Rattle.exchange.specs.Systems.{size_of, system_of}
-use Rattle.exchange.specs.Offers.{offered}
-use Rattle.exchange.specs.Steps.{solved_at, choice_at, step_of, smallest_after}
+use Rattle.exchange.specs.Meanings.{Means, Only}
+use Rattle.exchange.specs.Offers.{offered, pulls_of, pressures_of}
+use Rattle.exchange.specs.Steps.{solved_at, choice_at, found, step_at, unknowns_at, StepMeans}
 use Rattle.exchange.specs.declared.members.Member.{Member}
 use Rattle.exchange.specs.declared.members.Offer.{Offer}
 use Rattle.exchange.specs.declared.members.Choice.{Choice}
-use Rattle.exchange.specs.declared.members.Step.TheVariants.{Refused, Stuck, Found}
+use Rattle.exchange.specs.declared.members.Step.{Step}
+use Rattle.exchange.specs.declared.members.Step.TheVariants.{Stuck, Found}
+use Rattle.exchange.proofs.Meanings.{Ordered, chosen_means, same_choice}
 
 abbrev pub Pair : Type 0
 Pair = Float × Option (List Float)
@@ -51,26 +52,53 @@ module _ (n : ℕ) (us X : List Float) (e : X ≡ padded us) (w : Solves n (Some
   pub front_inside : (k : ℕ) → k < n → inside (at (take n X) k) ≡ true
   front_inside k l = ap (λ z. inside (at z k)) array_front ∙ w.1 k (omega (arith, w.0))
 
-module _ (P : Problem) (n m : ℕ) (ms : List Member) (s : Float) where
-  pub sizes_fit : has_sizes P n m ≡ true → (P.ropes ≡ n) × (P.rows ≡ m)
-  sizes_fit f = let p = and_parts (eqb P.ropes n) (eqb P.rows m) f in (eqb-true _ _ p.0, eqb-true _ _ p.1)
+-- earlier pivots do not matter to the unknowns
+same_columns : (w m k : ℕ) (s t : Float) (ls : List (List Float)) →
+    ((columns_done w m k s ls).whole ≡ (columns_done w m k t ls).whole) × ((columns_done w m k s ls).lines ≡ (columns_done w m k t ls).lines)
+same_columns w zero k s t ls = (refl, refl)
+same_columns w (suc m) k s t ls = on (takable (pivot_of k ls).1) _ _ _ _ (same_columns w m (suc k) (lesser s (pivot_of k ls).1) (lesser t (pivot_of k ls).1) (column_done w k ls)) (refl, refl)
+  where
+    on : (b : Bool) (u v x y : Triangle) → (u.whole ≡ v.whole) × (u.lines ≡ v.lines) → (x.whole ≡ y.whole) × (x.lines ≡ y.lines) →
+        ((cond b u x).whole ≡ (cond b v y).whole) × ((cond b u x).lines ≡ (cond b v y).lines)
+    on true u v x y p q = p
+    on false u v x y p q = q
 
-  pub step_refused : has_sizes P n m ≡ false → Refused ≡ step_of P n m ms s
-  unfolding step_of
-  step_refused f = rw f
+pub same_unknowns : (P : Problem) (ms : List Member) (s t : Float) → (solved_at P ms s).1 ≡ (solved_at P ms t).1
+unfolding solved
+same_unknowns P ms s t =
+    let ls = system_of P ms in
+    let e = same_columns (length ls + 1) (length ls) 0 s t ls in
+    ap (λ (b : Bool). cond b (unknowns_of (length ls) 0 (triangle_of s ls).lines) None) e.0
+    ∙ ap (λ (x : List (List Float)). cond (triangle_of t ls).whole (unknowns_of (length ls) 0 x) None) e.1
 
-  pub smallest_kept : has_sizes P n m ≡ false → s ≡ smallest_after P n m ms s
-  unfolding smallest_after
-  smallest_kept f = rw f
+module _ (P : Problem) (ms : List Member) (s : Float) where
+  pub step_stuck : (solved_at P ms s).1 ≡ None → Stuck ≡ step_at P ms s
+  step_stuck e = rw e
 
-  pub step_stuck : has_sizes P n m ≡ true → (solved_at P ms s).1 ≡ None → Stuck ≡ step_of P n m ms s
-  unfolding step_of
-  step_stuck f e = rw (f, e)
+  pub step_found : (us : List Float) (o : Offer) (ch : Choice) → (solved_at P ms s).1 ≡ Some us → o ≡ offered P ms us → ch ≡ choice_at P ms us → Found o ch ≡ step_at P ms s
+  step_found us o ch e p q = rw (e, p, q)
 
-  pub step_found : (us : List Float) (o : Offer) (ch : Choice) → has_sizes P n m ≡ true → (solved_at P ms s).1 ≡ Some us → o ≡ offered P ms us → ch ≡ choice_at P ms us → Found o ch ≡ step_of P n m ms s
-  unfolding step_of
-  step_found us o ch f e p q = rw (f, e, p, q)
+module _ (P : Problem) (ms : List Member) (few : length ms ≤ P.ropes) (ordered : Ordered P) where
+  pub found_means : (o : Option (List Float)) → unknowns_at P ms ≡ o → StepMeans P ms (found P ms o)
+  found_means None e = e
+  found_means (Some us) e = (us, e, refl, chosen_means P ms (pulls_of P us) (pressures_of P us) few)
 
-  pub smallest_noted : (t : Float) → has_sizes P n m ≡ true → t ≡ (solved_at P ms s).0 → t ≡ smallest_after P n m ms s
-  unfolding smallest_after
-  smallest_noted t f e = rw f e
+  pub same_step : (a b : Step) → StepMeans P ms a → StepMeans P ms b → a ≡ b
+  same_step Stuck Stuck m n = refl
+  same_step Stuck (Found o ch) m n = absurd (let e : None ≡ Some n.0 = sym m ∙ n.1 in let z : ◌≡◌ {A = ℕ} 0 1 = cc in omega arith)
+  same_step (Found o ch) Stuck m n = absurd (let e : None ≡ Some m.0 = sym n ∙ m.1 in let z : ◌≡◌ {A = ℕ} 0 1 = cc in omega arith)
+  same_step (Found o ch) (Found p c) m n =
+      let q : Some m.0 ≡ Some n.0 = sym m.1 ∙ n.1 in
+      let e : m.0 ≡ n.0 = cc in
+      let M : List Float → Type 0 = λ us. Means P ms (pulls_of P us) (pressures_of P us) ch in
+      let f = same_choice P ms (pulls_of P n.0) (pressures_of P n.0) ordered ch c (subst M e m.3) n.3 in
+      let g : o ≡ p = m.2 ∙ ap (offered P ms) e ∙ sym n.2 in
+      rw (g, f)
+
+  -- a step has its meaning, and nothing else has it
+  pub step_only : (s : Float) (st : Step) → st ≡ step_at P ms s → Only (StepMeans P ms) st
+  step_only s st e =
+      let S : Step → Type 0 = StepMeans P ms in
+      let f : step_at P ms s ≡ found P ms (unknowns_at P ms) = ap (found P ms) (same_unknowns P ms s largest) in
+      let m = subst S (sym (e ∙ f)) (found_means (unknowns_at P ms) refl) in
+      (m, λ y h. same_step y st h m)

@@ -1,9 +1,9 @@
 -- Which limit a point breaks most.
-use Rattle.std.specs.Prelude.{◌≡◌, ℕ, zero, suc, ◌<◌, Bool, false, cond, ◌||◌, List, [], ◌∷◌, length, take, ℤ, pos, ◌≤ℤ◌, ◌==◌, int_lt, slice_index_or}
+use Rattle.std.specs.Prelude.{◌≡◌, ℕ, zero, suc, ◌<◌, Bool, false, cond, ◌||◌, List, [], ◌∷◌, length, take, ℤ, pos, ◌==◌, int_lt, slice_index_or}
 use Rattle.duality.specs.Lists.{places}
 use Rattle.duality.specs.Problem.{Problem, row_at}
 use Rattle.terms.specs.Ticks.{excess}
-use Rattle.exchange.specs.Members.{Of, low, high}
+use Rattle.exchange.specs.Members.{blank, low, high}
 use Rattle.exchange.specs.declared.members.Limit.{Limit}
 use Rattle.exchange.specs.declared.members.Limit.TheVariants.{Row, Bound}
 use Rattle.exchange.specs.declared.members.Side.{Side}
@@ -35,10 +35,13 @@ value_at P z (Bound j) = places z j
 abbrev pub side_of : ℤ → ℤ → Side
 side_of lower s = cond (int_lt s lower) Lower Upper
 
--- how many ticks z lies outside a limit, and on which side
+-- how many ticks z lies outside a limit
+abbrev pub ticks : Problem → List ℤ → Limit → ℤ
+ticks P z v = excess (low P v) (high P v) (value_at P z v)
+
+-- the same, and on which side
 unfoldable pub breach : Problem → List ℤ → Limit → Breach
-breach P z v =
-    record { ticks = excess (low P v) (high P v) (value_at P z v); member = record { limit = v; side = side_of (low P v) (value_at P z v) } }
+breach P z v = record { ticks = ticks P z v; member = record { limit = v; side = side_of (low P v) (value_at P z v) } }
 
 -- the worse of two, where the first stands at a draw, and a limit that is held does not count
 unfoldable pub worse : Problem → List Member → List ℤ → Breach → Limit → Breach
@@ -51,7 +54,7 @@ upto f x (suc n) = f (upto f x n) n
 
 -- no limit broken
 abbrev pub unbroken : Breach
-unbroken = record { ticks = pos 0; member = record { limit = Bound 0; side = Lower } }
+unbroken = record { ticks = pos 0; member = blank }
 
 -- the worst among the rows, and then among the bounds: rows first at a draw, then the lowest index
 abbrev pub worst_row : Problem → List Member → List ℤ → Breach
@@ -59,7 +62,3 @@ worst_row P ms z = upto (λ b i. worse P ms z b (Row i)) unbroken P.rows
 
 unfoldable pub worst : Problem → List Member → List ℤ → Breach
 worst P ms z = upto (λ b j. worse P ms z b (Bound j)) (worst_row P ms z) P.ropes
-
--- no limit of the problem that is not held is broken by more than t ticks
-abbrev pub BrokenAtMost : Problem → List Member → List ℤ → ℤ → Type 0
-BrokenAtMost P ms z t = (v : Limit) → Of P.ropes P.rows v → holds ms v ≡ false → (breach P z v).ticks ≤ℤ t

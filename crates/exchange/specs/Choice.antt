@@ -1,8 +1,8 @@
 -- How the working set changes after a step.
-use Rattle.std.specs.Prelude.{ℕ, ◌≤◌, cond, List, length, ℤ, pos, int_lt, nat_lt, unsigned_abs}
+use Rattle.std.specs.Prelude.{ℕ, cond, List, length, ℤ, pos, int_lt, nat_lt, unsigned_abs}
 use Rattle.duality.specs.Lists.{places}
 use Rattle.duality.specs.Problem.{Problem}
-use Rattle.exchange.specs.Breaches.{upto, breach, worst, BrokenAtMost}
+use Rattle.exchange.specs.Breaches.{upto, worst}
 use Rattle.exchange.specs.Systems.{member_at}
 use Rattle.exchange.specs.declared.members.Side.{Side}
 use Rattle.exchange.specs.declared.members.Side.TheVariants.{Lower, Upper}
@@ -33,10 +33,3 @@ chosen P ms z ys =
     cond (int_lt (pos 0) (worst P ms z).ticks)
     (cond (nat_lt (length ms) P.ropes) (Enter (worst P ms z).member) Full)
     (cond (nat_lt 0 (most_wrong ms ys).size) (Leave (most_wrong ms ys).place) Done)
-
--- Law: who enters is broken by no fewer ticks than any other limit that is not held; where a member leaves, or none does, no such limit is broken.
-abbrev pub ChosenWell : Problem → List Member → List ℤ → Choice → Type 0
-ChosenWell P ms z (Enter w) = BrokenAtMost P ms z (breach P z w.limit).ticks
-ChosenWell P ms z (Leave k) = BrokenAtMost P ms z (pos 0)
-ChosenWell P ms z Full = P.ropes ≤ length ms
-ChosenWell P ms z Done = BrokenAtMost P ms z (pos 0)

@@ -2,8 +2,10 @@ pub mod Members
 pub mod Systems
 pub mod Breaches
 pub mod Choice
+pub mod Meanings
 pub mod Rounding
 pub mod Offers
 pub mod Steps
 pub mod Runs
+pub mod Laws
 pub mod Ends

@@ -7,6 +7,10 @@ use Rattle.exchange.specs.declared.members.Side.{Side}
 use Rattle.exchange.specs.declared.members.Side.TheVariants.{Lower, Upper}
 use Rattle.exchange.specs.declared.members.Member.{Member}
 
+-- what stands for no member
+abbrev pub blank : Member
+blank = record { limit = Bound 0; side = Lower }
+
 -- a limit of a problem of n ropes and m rows
 abbrev pub Of : ℕ → ℕ → Limit → Type 0
 Of n m (Row i) = i < m

@@ -1,15 +1,16 @@
 -- The whole exchange: what it offers, in order, how many steps it begins, and how it ends.
-use Rattle.std.specs.Prelude.{◌≡◌, ℕ, zero, suc, ◌+◌, ◌≤◌, cond, List, [], ◌∷◌, ◌++◌, length, Some, None, Option, ◌≢◌, Float}
+use Rattle.std.specs.Prelude.{ℕ, zero, suc, cond, List, [], ◌∷◌, ◌++◌, Some, None, Option, Float}
 use Rattle.std.specs.Float.Ieee.{lt}
 use Rattle.duality.specs.Problem.{Problem}
 use Rattle.elimination.specs.Lines.{largest, none}
-use Rattle.exchange.specs.Steps.{changed, found, solved_at}
+use Rattle.exchange.specs.Steps.{changed, solved_at, step_at}
 use Rattle.exchange.specs.declared.members.Member.{Member}
 use Rattle.exchange.specs.declared.members.Offer.{Offer}
 use Rattle.exchange.specs.declared.members.Choice.{Choice}
 use Rattle.exchange.specs.declared.members.Choice.TheVariants.{Enter, Leave, Full, Done}
 use Rattle.exchange.specs.declared.members.Step.{Step}
-use Rattle.exchange.specs.declared.members.Step.TheVariants.{Refused, Stuck, Found}
+use Rattle.exchange.specs.declared.members.Step.TheVariants.{Stuck, Found}
+use Rattle.exchange.specs.declared.members.Report.{Report}
 use Rattle.exchange.specs.declared.members.End.{End}
 use Rattle.exchange.specs.declared.members.End.TheVariants as end
 
@@ -29,7 +30,6 @@ stepped os r = record { offers = os ++ r.offers; steps = suc r.steps; ending = r
 
 -- what a step offers
 abbrev pub offers_of : Step → List Offer
-offers_of Refused = []
 offers_of Stuck = []
 offers_of (Found o ch) = o ∷ []
 
@@ -42,7 +42,6 @@ end_of Done = Some end.Done
 
 -- the end that a step means, if it is one
 abbrev pub end_after : Step → Option End
-end_after Refused = Some end.Stuck
 end_after Stuck = Some end.Stuck
 end_after (Found o ch) = end_of ch
 
@@ -50,13 +49,8 @@ abbrev pub or_over : Option End → Float → Run → Run
 or_over None s r = r
 or_over (Some e) s r = over e s
 
--- a step of this working set
-abbrev pub step_at : Problem → List Member → Float → Step
-step_at P ms s = found P ms (solved_at P ms s).1
-
 -- what follows a step, where s is the smallest pivot by then: a stuck step counts and offers nothing
 abbrev pub after_step : Step → Float → List Member → (List Member → Float → Run) → Run
-after_step Refused s ms next = stepped [] (over end.Stuck s)
 after_step Stuck s ms next = stepped [] (over end.Stuck s)
 after_step (Found o ch) s ms next = stepped (o ∷ []) (or_over (end_of ch) s (next (changed ms ch) s))
 
@@ -73,7 +67,9 @@ exchanged P budget = run_from budget P [] largest
 abbrev pub reported : Float → Float
 reported s = cond (lt s largest) s none
 
--- Law: an exchange begins no more steps than its budget, and each one offers once, but for a last one that is stuck.
-pub record LawfulRun (budget : ℕ) (r : Run) : Type 0 where
-  pub within : r.steps ≤ budget
-  pub offering : (r.ending ≡ end.Stuck → length r.offers + 1 ≡ r.steps) × ((r.ending ≢ end.Stuck) → length r.offers ≡ r.steps)
+-- what is said of steps that end so, where s is the smallest pivot
+abbrev pub report_at : ℕ → End → Float → Report
+report_at k e s = record { steps = k; end = e; smallest = reported s }
+
+abbrev pub report_of : Run → Report
+report_of r = report_at r.steps r.ending r.smallest

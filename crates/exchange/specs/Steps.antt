@@ -1,21 +1,21 @@
--- A step of the exchange, and the whole of it.
-use Rattle.std.specs.Prelude.{◌≡◌, ℕ, ◌<◌, false, cond, List, [], ◌∷◌, ◌++◌, length, Some, None, Option, Float, true, take}
+-- A step of the exchange.
+use Rattle.std.specs.Prelude.{◌≡◌, ℕ, ◌<◌, false, List, [], ◌∷◌, ◌++◌, length, Some, None, Option, Float, true, take}
 use Rattle.std.specs.List.{remove}
 use Rattle.duality.specs.Problem.{Problem}
-use Rattle.elimination.specs.Lines.{solved}
+use Rattle.elimination.specs.Lines.{largest, solved}
 use Rattle.duality.specs.Tests.{all_within}
 use Rattle.job.specs.Bounds.{InBounds}
-use Rattle.job.specs.Numbers.{has_sizes}
 use Rattle.exchange.specs.Members.{Of}
 use Rattle.exchange.specs.Systems.{system_of}
 use Rattle.exchange.specs.Breaches.{holds}
 use Rattle.exchange.specs.Choice.{chosen}
+use Rattle.exchange.specs.Meanings.{Means}
 use Rattle.exchange.specs.Offers.{pulls_of, pressures_of, offered}
 use Rattle.exchange.specs.declared.members.Member.{Member}
 use Rattle.exchange.specs.declared.members.Choice.{Choice}
 use Rattle.exchange.specs.declared.members.Choice.TheVariants.{Enter, Leave, Full, Done}
 use Rattle.exchange.specs.declared.members.Step.{Step}
-use Rattle.exchange.specs.declared.members.Step.TheVariants.{Refused, Stuck, Found}
+use Rattle.exchange.specs.declared.members.Step.TheVariants.{Stuck, Found}
 
 -- the working set after a choice
 abbrev pub changed : List Member → Choice → List Member
@@ -43,20 +43,24 @@ found P ms (Some us) = Found (offered P ms us) (choice_at P ms us)
 abbrev pub solved_at : Problem → List Member → Float → Float × Option (List Float)
 solved_at P ms s = solved s (system_of P ms)
 
--- a step of an exchange of n ropes and m rows: a problem of other sizes is refused
-unfoldable pub step_of : Problem → ℕ → ℕ → List Member → Float → Step
-step_of P n m ms s = cond (has_sizes P n m) (found P ms (solved_at P ms s).1) Refused
-
-unfoldable pub smallest_after : Problem → ℕ → ℕ → List Member → Float → Float
-smallest_after P n m ms s = cond (has_sizes P n m) (solved_at P ms s).0 s
+-- a step of this working set
+abbrev pub step_at : Problem → List Member → Float → Step
+step_at P ms s = found P ms (solved_at P ms s).1
 
 abbrev pub members_after : List Member → Step → List Member
-members_after ms Refused = ms
 members_after ms Stuck = ms
 members_after ms (Found o ch) = changed ms ch
 
--- Law: a step offers a point inside the bounds, and multipliers inside their limit; one that is stuck or refused offers nothing.
+-- Law: a step offers a point inside the bounds, and multipliers inside their limit; one that is stuck offers nothing.
 abbrev pub OffersInside : Problem → Step → Type 0
-OffersInside P Refused = Unit {0}
 OffersInside P Stuck = Unit {0}
 OffersInside P (Found o ch) = InBounds P (take P.ropes o.point) × (all_within 16777216 (take P.rows o.multipliers) ≡ true)
+
+-- the unknowns of a working set, or nothing where its system is stuck: earlier pivots do not matter
+abbrev pub unknowns_at : Problem → List Member → Option (List Float)
+unknowns_at P ms = (solved_at P ms largest).1
+
+-- Law: a step is stuck exactly if the system of its working set has no solution within the limits, and else its choice means what it says of the rounded solution.
+abbrev pub StepMeans : Problem → List Member → Step → Type 0
+StepMeans P ms Stuck = unknowns_at P ms ≡ None
+StepMeans P ms (Found o ch) = (us : List Float) × (unknowns_at P ms ≡ Some us) × (o ≡ offered P ms us) × Means P ms (pulls_of P us) (pressures_of P us) ch

@@ -5,13 +5,11 @@ use Rattle.std.specs.Float.{binary64}
 use Rattle.std.specs.Float.Ieee.{of_int}
 use Rattle.std.specs.List.{range_with_len}
 use Rattle.duality.specs.Problem.{Problem}
-use Rattle.exchange.specs.Members.{weight, held_at}
-use Rattle.exchange.specs.declared.members.Limit.TheVariants.{Bound}
-use Rattle.exchange.specs.declared.members.Side.TheVariants.{Lower}
+use Rattle.exchange.specs.Members.{blank, weight, held_at}
 use Rattle.exchange.specs.declared.members.Member.{Member}
 
 abbrev pub member_at : List Member → ℕ → Member
-member_at ms k = slice_index_or ms k (record { limit = Bound 0; side = Lower })
+member_at ms k = slice_index_or ms k blank
 
 -- how many unknowns there are
 abbrev pub size_of : Problem → List Member → ℕ

@@ -21,7 +21,7 @@ impl WorkingSet<'_> {
 
 impl Rounded<'_> {
     fn value_at(&self, limit: Limit) -> i64
-        requires { Of self.now.set.job.now.ropes self.now.set.job.now.rows limit }
+        requires { Of (problem_of self.now.set.job.now).ropes (problem_of self.now.set.job.now).rows limit }
         ensures value { result ≡ value_at (problem_of self.now.set.job.now) self.now.pulls.now limit }
         ensures small { unsigned_abs result ≤ 2 ^ 54 }
     {
@@ -32,7 +32,7 @@ impl Rounded<'_> {
     }
 
     fn breach(&self, limit: Limit) -> Breach
-        requires { Of self.now.set.job.now.ropes self.now.set.job.now.rows limit }
+        requires { Of (problem_of self.now.set.job.now).ropes (problem_of self.now.set.job.now).rows limit }
         ensures { result ≡ breach_of (problem_of self.now.set.job.now) self.now.pulls.now limit }
     {
         let lower = held_at(
@@ -58,7 +58,7 @@ impl Rounded<'_> {
     }
 
     fn worse(&self, best: Breach, limit: Limit) -> Breach
-        requires { Of self.now.set.job.now.ropes self.now.set.job.now.rows limit }
+        requires { Of (problem_of self.now.set.job.now).ropes (problem_of self.now.set.job.now).rows limit }
         ensures { result ≡ worse_of (problem_of self.now.set.job.now) self.now.set.members.now self.now.pulls.now best limit }
     {
         if self.set.holds(limit) {
@@ -78,15 +78,12 @@ impl Rounded<'_> {
     {
         let mut best = Breach {
             ticks: 0,
-            member: Member {
-                limit: Limit::Bound(0),
-                side: Side::Lower,
-            },
+            member: Member::default(),
         };
-        for i in 0..self.set.job.rows {
+        for i in 0..self.set.job.rows() {
             best = self.worse(best, Limit::Row(i));
         }
-        for j in 0..self.set.job.ropes {
+        for j in 0..self.set.job.ropes() {
             best = self.worse(best, Limit::Bound(j));
         }
         best

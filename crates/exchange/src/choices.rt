@@ -36,7 +36,7 @@ impl Rounded<'_> {
     {
         let breach = self.worst();
         if breach.ticks > 0 {
-            if self.set.members.len() < self.set.job.ropes {
+            if self.set.members.len() < self.set.job.ropes() {
                 return Choice::Enter(breach.member);
             }
             return Choice::Full;

@@ -1,22 +1,23 @@
 //! The struct stands alone: definitions that name it can be cited from every other file.
-ghost use Rattle.std.specs.Prelude.{◌≤◌, vec_len, vec_capacity};
+ghost use Rattle.std.specs.Prelude.{◌≤◌, length};
+ghost use Rattle.job.specs.Numbers.{problem_of};
 ghost use Rattle.exchange.specs.Members.{Fitting};
 ghost use Rattle.exchange.specs.Breaches.{Apart};
 
 use crate::members::Member;
+use arrayvec::ArrayVec;
+use job::Job;
+use terms::MOST_ROPES;
 
-/// An exchange under way: its working set, in the order in which the members entered, and the smallest pivot so far.
+/// An exchange under way: its job, its working set in the order in which the members entered, and the smallest pivot so far.
 ///
-/// The set never holds a limit twice, on one side or on both, and never has more members than there are ropes. All memory is taken when it is made.
+/// The set never holds a limit twice, on one side or on both, and never has more members than there are ropes. It takes no memory from the heap.
 #[derive(Drop)]
-pub struct Exchange {
-    pub(crate) ropes: usize,
-    pub(crate) rows: usize,
-    pub(crate) members: Vec<Member>,
+pub struct Exchange<'a> {
+    pub(crate) job: &'a Job,
+    pub(crate) members: ArrayVec<Member, MOST_ROPES>,
     pub(crate) smallest: f64,
-    ghost small: { ropes ≤ 16 },
-    ghost few: { vec_len members ≤ ropes },
-    ghost room: { ropes ≤ vec_capacity members },
-    ghost fitting: { Fitting ropes rows members.items },
+    ghost few: { length members.items ≤ (problem_of job.now).ropes },
+    ghost fitting: { Fitting (problem_of job.now).ropes (problem_of job.now).rows members.items },
     ghost apart: { Apart members.items },
 }

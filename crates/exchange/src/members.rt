@@ -1,5 +1,6 @@
 //! What the working set is made of.
-ghost use Rattle.std.specs.Prelude.{Some};
+ghost use Rattle.std.specs.Prelude.{◌≡◌, Some};
+ghost use Rattle.exchange.specs.Members.{blank};
 ghost use Rattle.exchange.specs.Ends.{name_of};
 
 use std::fmt;
@@ -24,6 +25,18 @@ pub enum Side {
 pub struct Member {
     pub limit: Limit,
     pub side: Side,
+}
+
+impl Default for Member {
+    ghost is_default = { λ w. w ≡ blank };
+
+    // What stands in a place of the set that is not in use.
+    fn default() -> Self {
+        Member {
+            limit: Limit::Bound(0),
+            side: Side::Lower,
+        }
+    }
 }
 
 /// How many ticks a point lies outside a limit, and the member that would hold it inside.
@@ -63,11 +76,9 @@ pub enum Choice {
 }
 
 /// What a step came to.
-// Not a `Result`: each of the three may end an exchange, and no caller passes one on with `?`.
+// Not an `Option` or a `Result`: either case may end an exchange, and no caller passes one on with `?`.
 #[derive(Clone, Copy, Debug, PartialEq, Eq)]
 pub enum Step {
-    /// The job has other sizes than the exchange was made for: nothing was done.
-    Refused,
     /// The step's system has no solution within the limits: nothing is offered, and the working set stays.
     Stuck,
     /// What the step offers, and how the working set changed.

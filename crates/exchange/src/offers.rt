@@ -13,10 +13,10 @@ const LIMIT: i64 = MULTIPLIER_LIMIT as i64;
 
 /// The pulls held inside the bounds.
 pub(crate) fn point_of(job: &Job, mut pulls: [i64; MOST_ROPES]) -> [i64; MOST_ROPES]
-    ensures { result ≡ inside_bounds (problem_of job.now) (take job.now.ropes pulls) ++ drop job.now.ropes pulls }
+    ensures { result ≡ inside_bounds (problem_of job.now) (take (problem_of job.now).ropes pulls) ++ drop (problem_of job.now).ropes pulls }
 {
     // The part has a number for each rope, so that `clamp` does not refuse it.
-    let held = job.clamp(&mut pulls[0..job.ropes]);
+    let held = job.clamp(&mut pulls[0..job.ropes()]);
     prove!(held);
     pulls
 }
@@ -53,7 +53,7 @@ impl Rounded<'_> {
         ensures { result ≡ filled 32 (multipliers_of (problem_of self.now.set.job.now) self.now.set.members.now self.now.pressures.now) }
     {
         let mut multipliers = [0; MOST_ROWS];
-        self.fill_multipliers(&mut multipliers[0..self.set.job.rows]);
+        self.fill_multipliers(&mut multipliers[0..self.set.job.rows()]);
         multipliers
     }
 }

@@ -1,5 +1,6 @@
 //! The struct stands alone: definitions that name it can be cited from every other file.
 ghost use Rattle.std.specs.Prelude.{◌≡◌, true, length};
+ghost use Rattle.job.specs.Numbers.{problem_of};
 ghost use Rattle.duality.specs.Tests.{many_within};
 
 use crate::working::WorkingSet;
@@ -10,6 +11,6 @@ pub(crate) struct Rounded<'a> {
     pub(crate) set: WorkingSet<'a>,
     pub(crate) pulls: &'a [i64],
     pub(crate) pressures: &'a [i64],
-    ghost point: { many_within set.job.now.ropes 1073741824 pulls.now ≡ true },
+    ghost point: { many_within (problem_of set.job.now).ropes 1073741824 pulls.now ≡ true },
     ghost paired: { length pressures.now ≡ length set.members.now },
 }

@@ -1,11 +1,11 @@
 //! One step after another.
-ghost use Rattle.std.specs.Prelude.{◌≡◌, ℕ, ◌+◌, ◌<◌, ◌≤◌, true, List, [], length, take, IfOk, Float};
+ghost use Rattle.std.specs.Prelude.{◌≡◌, ℕ, ◌+◌, ◌<◌, ◌≤◌, true, [], length, take};
 ghost use Rattle.job.specs.Numbers.{problem_of};
 ghost use Rattle.elimination.specs.Lines.{at, inside, largest};
 ghost use Rattle.exchange.specs.Systems.{size_of};
-ghost use Rattle.exchange.specs.Choice.{ChosenWell};
-ghost use Rattle.exchange.specs.Offers.{offered, pulls_of};
-ghost use Rattle.exchange.specs.Steps.{changed, Follows, choice_at, step_of, smallest_after, members_after, OffersInside};
+ghost use Rattle.exchange.specs.Meanings.{Only};
+ghost use Rattle.exchange.specs.Offers.{offered};
+ghost use Rattle.exchange.specs.Steps.{changed, Follows, choice_at, step_at, solved_at, members_after, OffersInside, StepMeans};
 
 use crate::exchanges::Exchange;
 use crate::members::{Choice, Offer, Step};
@@ -13,9 +13,9 @@ use crate::offers::point_of;
 use crate::rounded::Rounded;
 use crate::rounds::{in_parts, rounded};
 use crate::working::WorkingSet;
+use arrayvec::ArrayVec;
 use elimination::{LARGEST, LINE_PLACES, MOST_UNKNOWNS, solve};
 use job::Job;
-use std::alloc::{AllocError, Global};
 
 impl WorkingSet<'_> {
     /// What the unknowns of the solved system offer, and how the working set changes.
@@ -26,13 +26,14 @@ impl WorkingSet<'_> {
         ensures choice { result.1 ≡ choice_at (problem_of self.now.job.now) self.now.members.now unknowns.old }
     {
         let (job, members) = (self.job, self.members);
-        let (pulls, pressures) = unknowns.split_at_mut(job.ropes);
+        let ropes = job.ropes();
+        let (pulls, pressures) = unknowns.split_at_mut(ropes);
         in_parts(pressures);
         let pulls = rounded(pulls);
         let pressures = rounded(pressures);
         let solution = Rounded {
             set: *self,
-            pulls: &pulls[0..job.ropes],
+            pulls: &pulls[0..ropes],
             pressures: &pressures[0..members.len()],
         };
         let choice = solution.choose();
@@ -42,30 +43,29 @@ impl WorkingSet<'_> {
     }
 }
 
-impl Exchange {
-    /// An exchange for jobs of this job's sizes, with an empty working set and no pivot taken.
-    pub fn new(heap: Global, job: &Job) -> Result<Exchange, AllocError>
-        ensures { IfOk result (λ e. (e.ropes ≡ job.now.ropes) × (e.rows ≡ job.now.rows) × (e.members.items ≡ []) × (e.smallest ≡ largest)) }
+impl<'a> Exchange<'a> {
+    /// An exchange of the job with an empty working set and no pivot taken.
+    pub fn new(job: &'a Job) -> Exchange<'a>
+        ensures job { result.job.now ≡ job.now }
+        ensures members { result.members.items ≡ [] }
+        ensures smallest { result.smallest ≡ largest }
     {
-        let members = Vec::with_capacity(heap, job.ropes)?;
-        Ok(Exchange {
-            ropes: job.ropes,
-            rows: job.rows,
-            members,
+        Exchange {
+            job,
+            members: ArrayVec::new(),
             smallest: LARGEST,
-        })
+        }
     }
 
     fn follow(&mut self, choice: Choice)
-        requires { Follows self.old.ropes self.old.rows self.old.members.items choice }
+        requires { Follows (problem_of self.old.job.now).ropes (problem_of self.old.job.now).rows self.old.members.items choice }
         ensures members { self.new.members.items ≡ changed self.old.members.items choice }
-        ensures ropes { self.new.ropes ≡ self.old.ropes }
-        ensures rows { self.new.rows ≡ self.old.rows }
+        ensures job { self.new.job.now ≡ self.old.job.now }
         ensures smallest { self.new.smallest ≡ self.old.smallest }
     {
         match choice {
             Choice::Enter(member) => {
-                self.members.push_reserved(member);
+                self.members.push(member);
             }
             Choice::Leave(k) => {
                 let _ = self.members.remove(k);
@@ -74,23 +74,17 @@ impl Exchange {
         }
     }
 
-    /// Solves the working set's system, offers what it finds, and changes the set. A job of other sizes is refused.
-    pub fn step(&mut self, job: &Job) -> Step
-        ensures value { result ≡ step_of (problem_of job.now) self.old.ropes self.old.rows self.old.members.items self.old.smallest }
+    /// Solves the working set's system, offers what it finds, and changes the set.
+    pub fn step(&mut self) -> Step
+        ensures value { result ≡ step_at (problem_of self.old.job.now) self.old.members.items self.old.smallest }
         ensures members { self.new.members.items ≡ members_after self.old.members.items result }
-        ensures smallest { self.new.smallest
-            ≡ smallest_after (problem_of job.now) self.old.ropes self.old.rows self.old.members.items self.old.smallest }
-        ensures ropes { self.new.ropes ≡ self.old.ropes }
-        ensures rows { self.new.rows ≡ self.old.rows }
-        ensures law { OffersInside (problem_of job.now) result }
-        ensures choice { (us : List Float) → ChosenWell (problem_of job.now) self.old.members.items
-            (pulls_of (problem_of job.now) us) (choice_at (problem_of job.now) self.old.members.items us) }
+        ensures smallest { self.new.smallest ≡ (solved_at (problem_of self.old.job.now) self.old.members.items self.old.smallest).0 }
+        ensures job { self.new.job.now ≡ self.old.job.now }
+        ensures inside { OffersInside (problem_of self.old.job.now) result }
+        ensures meaning { Only (StepMeans (problem_of self.old.job.now) self.old.members.items) result }
     {
-        if !job.has_sizes(self.ropes, self.rows) {
-            return Step::Refused;
-        }
         let set = WorkingSet {
-            job,
+            job: self.job,
             members: &self.members,
         };
         let size = set.size();

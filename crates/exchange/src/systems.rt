@@ -19,35 +19,35 @@ fn negated(x: i64) -> i64
 }
 
 fn curve(job: &Job, r: usize, k: usize) -> i64
-    requires row { r < job.now.ropes }
-    requires column { k < job.now.ropes }
+    requires row { r < (problem_of job.now).ropes }
+    requires column { k < (problem_of job.now).ropes }
     ensures value { result ≡ (problem_of job.now).G r k }
     ensures small { unsigned_abs result ≤ 536870912 }
 {
-    job.g[r * job.ropes + k]
+    job.g[r * job.ropes() + k]
 }
 
 fn price(job: &Job, r: usize) -> i64
-    requires { r < job.now.ropes }
+    requires { r < (problem_of job.now).ropes }
     ensures value { result ≡ (problem_of job.now).c r }
     ensures small { unsigned_abs result ≤ 536870912 }
 {
-    job.c[r]
+    job.terms.c[r]
 }
 
 fn row_weight(job: &Job, i: usize, j: usize) -> i64
-    requires row { i < job.now.rows }
-    requires rope { j < job.now.ropes }
+    requires row { i < (problem_of job.now).rows }
+    requires rope { j < (problem_of job.now).ropes }
     ensures value { result ≡ (problem_of job.now).A i j }
     ensures small { unsigned_abs result ≤ 536870912 }
 {
-    job.a[j * job.rows + i]
+    job.a[j * job.rows() + i]
 }
 
 // Job and limit are passed side by side, because a struct of the two would be made anew for each entry.
 fn weight(job: &Job, limit: Limit, j: usize) -> i64
-    requires limit { Of job.now.ropes job.now.rows limit }
-    requires rope { j < job.now.ropes }
+    requires limit { Of (problem_of job.now).ropes (problem_of job.now).rows limit }
+    requires rope { j < (problem_of job.now).ropes }
     ensures value { result ≡ weight_of (problem_of job.now) limit j }
     ensures small { unsigned_abs result ≤ 536870912 }
 {
@@ -59,15 +59,15 @@ fn weight(job: &Job, limit: Limit, j: usize) -> i64
 
 /// The number at which a member holds its limit.
 pub(crate) fn held_at(job: &Job, member: Member) -> i64
-    requires { Of job.now.ropes job.now.rows member.limit }
+    requires { Of (problem_of job.now).ropes (problem_of job.now).rows member.limit }
     ensures value { result ≡ held_at (problem_of job.now) member }
     ensures small { unsigned_abs result ≤ 536870912 }
 {
     match (member.limit, member.side) {
-        (Limit::Row(i), Side::Lower) => job.lo[i],
-        (Limit::Row(i), Side::Upper) => job.hi[i],
-        (Limit::Bound(j), Side::Lower) => job.l[j],
-        (Limit::Bound(j), Side::Upper) => job.u[j],
+        (Limit::Row(i), Side::Lower) => job.terms.lo[i],
+        (Limit::Row(i), Side::Upper) => job.terms.hi[i],
+        (Limit::Bound(j), Side::Lower) => job.terms.l[j],
+        (Limit::Bound(j), Side::Upper) => job.terms.u[j],
     }
 }
 
@@ -76,15 +76,15 @@ impl WorkingSet<'_> {
     pub(crate) fn size(&self) -> usize
         ensures { result ≡ size_of (problem_of self.now.job.now) self.now.members.now }
     {
-        self.job.ropes + self.members.len()
+        self.job.ropes() + self.members.len()
     }
 
     fn rope_entry(&self, r: usize, k: usize) -> i64
-        requires { r < self.now.job.now.ropes }
+        requires { r < (problem_of self.now.job.now).ropes }
         ensures value { result ≡ rope_entry (problem_of self.now.job.now) self.now.members.now r k }
         ensures small { unsigned_abs result ≤ 536870912 }
     {
-        let ropes = self.job.ropes;
+        let ropes = self.job.ropes();
         if k < ropes {
             curve(self.job, r, k)
         } else if k < ropes + self.members.len() {
@@ -95,11 +95,11 @@ impl WorkingSet<'_> {
     }
 
     fn member_entry(&self, member: Member, k: usize) -> i64
-        requires { Of self.now.job.now.ropes self.now.job.now.rows member.limit }
+        requires { Of (problem_of self.now.job.now).ropes (problem_of self.now.job.now).rows member.limit }
         ensures value { result ≡ member_entry (problem_of self.now.job.now) self.now.members.now member k }
         ensures small { unsigned_abs result ≤ 536870912 }
     {
-        let ropes = self.job.ropes;
+        let ropes = self.job.ropes();
         if k < ropes {
             weight(self.job, member.limit, k)
         } else if k < ropes + self.members.len() {
@@ -110,11 +110,11 @@ impl WorkingSet<'_> {
     }
 
     fn entry(&self, r: usize, k: usize) -> i64
-        requires { r < self.now.job.now.ropes + length self.now.members.now }
+        requires { r < (problem_of self.now.job.now).ropes + length self.now.members.now }
         ensures value { result ≡ entry_of (problem_of self.now.job.now) self.now.members.now r k }
         ensures small { unsigned_abs result ≤ 536870912 }
     {
-        let ropes = self.job.ropes;
+        let ropes = self.job.ropes();
         if r < ropes {
             self.rope_entry(r, k)
         } else {
@@ -123,7 +123,7 @@ impl WorkingSet<'_> {
     }
 
     fn fill_line(&self, line: &mut [f64], r: usize)
-        requires { r < self.now.job.now.ropes + length self.now.members.now }
+        requires { r < (problem_of self.now.job.now).ropes + length self.now.members.now }
         ensures { line.new ≡ line_of (problem_of self.now.job.now) self.now.members.now (length line.old) r }
     {
         for (k, x) in line.iter_mut().enumerate() {
@@ -133,7 +133,7 @@ impl WorkingSet<'_> {
     }
 
     fn fill_lines(&self, lines: &mut [[f64; LINE_PLACES]])
-        requires { length lines.old ≡ self.now.job.now.ropes + length self.now.members.now }
+        requires { length lines.old ≡ (problem_of self.now.job.now).ropes + length self.now.members.now }
         ensures { seen (length lines.old + 1) lines.new ≡ system_of (problem_of self.now.job.now) self.now.members.now }
     {
         let width = lines.len() + 1;

@@ -1,9 +1,8 @@
 use Rattle.std.proofs.Common.{nat_abs, ap, arith}
-use Rattle.job.proofs.Reading.{c_read, c_small}
+use Rattle.terms.proofs.Reading.{c_item, c_small}
 use Rattle.exchange.proofs.systems.price.Goals as goal
 
-pub returns : goal.returns
-returns c =
-    let j = c.args.job.now in
-    let e = c_read j c.args.r _ c.index.ensures c.requires in
-    record { value = e; small = omega (arith, ap nat_abs e, c_small j c.args.r) }
+pub returns-clause-small : goal.returns-clause-small
+returns-clause-small c =
+    let t = c.args.job.now.terms in
+    omega (arith, ap nat_abs (c_item t c.args.r _ c.deref.ensures.0), c_small t c.args.r)

@@ -1,12 +1,10 @@
-use Rattle.std.proofs.Common.{◌+◌, ◌*◌, nat_abs, ap, arith}
-use Rattle.job.proofs.Reading.{a_there, a_read, a_small}
+use Rattle.std.proofs.Common.{◌+◌, ◌*◌, nat_abs, ap, arith, lit<}
+use Rattle.terms.proofs.Bits.{item_back}
+use Rattle.job.proofs.Reading.{a_small}
 use Rattle.exchange.proofs.systems.row_weight.Goals as goal
 
-pub index-requires : goal.index-requires
-index-requires c = a_there c.args.job.now c.args.i c.args.j c.requires.row c.requires.rope
-
-pub returns : goal.returns
-returns c =
+pub returns-clause-small : goal.returns-clause-small
+returns-clause-small c =
     let j = c.args.job.now in
-    let e = a_read j c.args.i c.args.j _ c.index.ensures c.requires.row c.requires.rope in
-    record { value = e; small = omega (arith, ap nat_abs e, a_small j (c.args.j * j.rows + c.args.i)) }
+    let at = c.args.j * c.rows.result + c.args.i in
+    omega (arith, ap nat_abs (item_back 1048576 _ j.a.items at c.deref.ensures.0 (a_small j at) (lit< tt)), a_small j at)

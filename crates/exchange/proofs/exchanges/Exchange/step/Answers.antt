@@ -1,4 +1,4 @@
-use Rattle.std.proofs.Common.{◌≡◌, ℕ, ◌+◌, ◌≤◌, List, length, take, vec_items, Option, sym, refl, ap, ◌∙◌, subst, arith}
+use Rattle.std.proofs.Common.{◌≡◌, ◌+◌, ◌≤◌, List, length, take, Option, sym, refl, ap, ◌∙◌, subst, arith}
 use lib.Ieee.{Float}
 use Rattle.std.specs.Option.{option_map}
 use Rattle.job.specs.Numbers.{problem_of}
@@ -11,59 +11,39 @@ use Rattle.exchange.specs.declared.members.Member.{Member}
 use Rattle.exchange.specs.declared.members.Offer.{Offer}
 use Rattle.exchange.specs.declared.members.Step.TheVariants.{Found}
 use Rattle.exchange.proofs.Offering.{offered_inside}
-use Rattle.exchange.proofs.Worst.{chosen_well}
-use Rattle.exchange.proofs.Following.{chosen_follows}
-use Rattle.exchange.proofs.Stepping.{Pair, system_solved, law_kept, none_from, some_from, array_front, front_long, front_inside, sizes_fit, step_refused, smallest_kept, step_stuck, step_found, smallest_noted}
+use Rattle.exchange.proofs.Meanings.{chosen_means, means_follows, job_ordered}
+use Rattle.exchange.proofs.Stepping.{Pair, system_solved, law_kept, none_from, some_from, array_front, front_long, front_inside, step_stuck, step_found, step_only}
 use Rattle.exchange.proofs.exchanges.Exchange.step.Goals as goal
-
-pub returns-then-not-has_sizes : goal.returns-then-not-has_sizes
-returns-then-not-has_sizes c =
-    let e = c.args.self.now in
-    let P = problem_of c.args.job.now in
-    let f = sym c.if-not-has_sizes.ensures in
-    record {
-      value = step_refused P e.ropes e.rows (vec_items e.members) e.smallest f;
-      members = refl;
-      smallest = smallest_kept P e.ropes e.rows (vec_items e.members) e.smallest f;
-      ropes = refl;
-      rows = refl;
-      law = tt;
-      choice = λ us. chosen_well P (vec_items e.members) (pulls_of P us) (pressures_of P us);
-    }
 
 pub returns-in_default : goal.returns-in_default
 returns-in_default c =
     let e = c.args.self.now in
-    let j = c.args.job.now in
+    let j = e.job.now in
     let P = problem_of j in
-    let ms = vec_items e.members in
-    let f = sym c.if-not-has_sizes.ensures in
-    let z = sizes_fit P e.ropes e.rows ms e.smallest f in
-    let h : j.ropes + length ms ≤ 32 = omega (arith, e.few, e.small, e.members.ok.0, z.0) in
-    let d = c.deref.ensures.value in
+    let ms = e.members.items in
+    let h : P.ropes + length ms ≤ 32 = omega (arith, e.few, j.terms.some.1) in
+    let d = c.deref.ensures.0 in
     let k : c.size-size.result ≡ size_of P ms = c.size-size.ensures ∙ ap (size_of P) d in
     let q = system_solved P ms c.deref.result.now c.size-size.result e.smallest c.fill_square.new.lines d k h (omega arith) c.fill_square.ensures in
     let n = none_from (solved_at P ms e.smallest).1 (sym c.in_default.is ∙ c.solve-solution.ensures.unknowns ∙ ap (λ (p : Pair). option_map padded p.1) q) in
+    let v = step_stuck P ms e.smallest n in
     record {
-      value = step_stuck P e.ropes e.rows ms e.smallest f n;
+      value = v;
       members = refl;
-      smallest = smallest_noted P e.ropes e.rows ms e.smallest _ f (c.solve-solution.ensures.smallest ∙ ap (λ (p : Pair). p.0) q);
-      ropes = refl;
-      rows = refl;
-      law = tt;
-      choice = λ us. chosen_well P ms (pulls_of P us) (pressures_of P us);
+      smallest = c.solve-solution.ensures.smallest ∙ ap (λ (p : Pair). p.0) q;
+      job = refl;
+      inside = tt;
+      meaning = step_only P ms e.few (job_ordered j) e.smallest _ v;
     }
 
 pub reading-choice-requires : goal.reading-choice-requires
 reading-choice-requires c =
     let e = c.args.self.now in
-    let j = c.args.job.now in
+    let j = e.job.now in
     let P = problem_of j in
-    let ms = vec_items e.members in
-    let f = sym c.if-not-has_sizes.ensures in
-    let z = sizes_fit P e.ropes e.rows ms e.smallest f in
-    let h : j.ropes + length ms ≤ 32 = omega (arith, e.few, e.small, e.members.ok.0, z.0) in
-    let d = c.deref.ensures.value in
+    let ms = e.members.items in
+    let h : P.ropes + length ms ≤ 32 = omega (arith, e.few, j.terms.some.1) in
+    let d = c.deref.ensures.0 in
     let k : c.size-size.result ≡ size_of P ms = c.size-size.ensures ∙ ap (size_of P) d in
     let q = system_solved P ms c.deref.result.now c.size-size.result e.smallest c.fill_square.new.lines d k h (omega arith) c.fill_square.ensures in
     let X = c.in-Some.unknowns in
@@ -79,29 +59,24 @@ reading-choice-requires c =
 pub follow-requires : goal.follow-requires
 follow-requires c =
     let e = c.args.self.now in
-    let j = c.args.job.now in
-    let P = problem_of j in
-    let ms = vec_items e.members in
+    let P = problem_of e.job.now in
     let vs = c.deref.result.now in
     let us = take c.size-size.result c.in-Some.unknowns in
     let ch = c.reading-choice.result.1 in
-    let z = sizes_fit P e.ropes e.rows ms e.smallest (sym c.if-not-has_sizes.ensures) in
-    let A : Choice → Type 0 = Follows j.ropes j.rows vs in
-    let B : List Member → Type 0 = λ x. Follows j.ropes j.rows x ch in
-    let C : ℕ → Type 0 = λ n. Follows n j.rows ms ch in
-    let D : ℕ → Type 0 = λ m. Follows e.ropes m ms ch in
-    subst D z.1 (subst C z.0 (subst B c.deref.ensures.value (subst A (sym c.reading-choice.ensures.choice) (chosen_follows P vs (pulls_of P us) (pressures_of P us)))))
+    let A : Choice → Type 0 = Follows P.ropes P.rows vs in
+    let B : List Member → Type 0 = λ x. Follows P.ropes P.rows x ch in
+    let d = c.deref.ensures.0 in
+    subst B d (subst A (sym c.reading-choice.ensures.choice) (means_follows P vs (pulls_of P us) (pressures_of P us) _
+    (chosen_means P vs (pulls_of P us) (pressures_of P us) (omega (arith, e.few, ap length d)))))
 
 pub returns : goal.returns
 returns c =
     let e = c.args.self.now in
-    let j = c.args.job.now in
+    let j = e.job.now in
     let P = problem_of j in
-    let ms = vec_items e.members in
-    let f = sym c.if-not-has_sizes.ensures in
-    let z = sizes_fit P e.ropes e.rows ms e.smallest f in
-    let h : j.ropes + length ms ≤ 32 = omega (arith, e.few, e.small, e.members.ok.0, z.0) in
-    let d = c.deref.ensures.value in
+    let ms = e.members.items in
+    let h : P.ropes + length ms ≤ 32 = omega (arith, e.few, j.terms.some.1) in
+    let d = c.deref.ensures.0 in
     let k : c.size-size.result ≡ size_of P ms = c.size-size.ensures ∙ ap (size_of P) d in
     let q = system_solved P ms c.deref.result.now c.size-size.result e.smallest c.fill_square.new.lines d k h (omega arith) c.fill_square.ensures in
     let X = c.in-Some.unknowns in
@@ -112,14 +87,14 @@ returns c =
     let r = array_front c.size-size.result us X u.1.1 w in
     let o = c.reading-choice.ensures.offer ∙ ap (λ (x : List Member). offered P x (take c.size-size.result X)) d ∙ ap (offered P ms) r in
     let L : Offer → Type 0 = λ y. OffersInside (problem_of j) (Found y c.reading-choice.result.1) in
+    let v =
+    step_found P ms e.smallest us c.reading-choice.result.0 c.reading-choice.result.1 u.1.0 o
+    (c.reading-choice.ensures.choice ∙ ap (λ (x : List Member). choice_at P x (take c.size-size.result X)) d ∙ ap (choice_at P ms) r) in
     record {
-      value =
-          step_found P e.ropes e.rows ms e.smallest us c.reading-choice.result.0 c.reading-choice.result.1 f u.1.0 o
-          (c.reading-choice.ensures.choice ∙ ap (λ (x : List Member). choice_at P x (take c.size-size.result X)) d ∙ ap (choice_at P ms) r);
+      value = v;
       members = c.follow.ensures.members;
-      smallest = c.follow.ensures.smallest ∙ smallest_noted P e.ropes e.rows ms e.smallest _ f (c.solve-solution.ensures.smallest ∙ ap (λ (p : Pair). p.0) q);
-      ropes = c.follow.ensures.ropes;
-      rows = c.follow.ensures.rows;
-      law = subst L (sym o) (offered_inside j ms us c.reading-choice.result.1 (omega (arith, w.0, k)));
-      choice = λ us. chosen_well P ms (pulls_of P us) (pressures_of P us);
+      smallest = c.follow.ensures.smallest ∙ c.solve-solution.ensures.smallest ∙ ap (λ (p : Pair). p.0) q;
+      job = c.follow.ensures.job;
+      inside = subst L (sym o) (offered_inside j ms us c.reading-choice.result.1 (omega (arith, w.0, k)));
+      meaning = step_only P ms e.few (job_ordered j) e.smallest _ v;
     }

@@ -2,7 +2,7 @@ use Rattle.std.proofs.Common.{◌≡◌, ℕ, ◌<◌, length, ℤ, pos, ◌∙�
 use Rattle.std.proofs.lemmas.Int.{to_z-of_z}
 use Rattle.std.proofs.lemmas.List.FromFn.{fill_by_all}
 use Rattle.std.proofs.lemmas.List.Edits.{fill_by_more}
-use Rattle.job.proofs.Bits.{back}
+use Rattle.terms.proofs.Bits.{back}
 use Rattle.exchange.specs.Offers.{pressure_of}
 use Rattle.exchange.specs.declared.members.Limit.TheVariants.{Row}
 use Rattle.exchange.proofs.rounded.Rounded.fill_multipliers.Goals as goal

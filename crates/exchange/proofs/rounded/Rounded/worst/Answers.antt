@@ -17,7 +17,7 @@ loop-j-init c =
     let P = problem_of c.args.self.now.set.job.now in
     let ms = c.args.self.now.set.members.now in
     let z = c.args.self.now.pulls.now in
-    let e : c.loop-i.i ≡ c.args.self.now.set.job.now.rows = omega arith in
+    let e : c.loop-i.i ≡ P.rows = omega (arith, c.rows-i-end.ensures) in
     c.loop-i.invariant ∙ ap (λ (n : ℕ). upto (λ b i. worse P ms z b (Row i)) unbroken n) e
 
 pub loop-j-preserved : goal.loop-j-preserved
@@ -33,5 +33,5 @@ returns c =
     let P = problem_of c.args.self.now.set.job.now in
     let ms = c.args.self.now.set.members.now in
     let z = c.args.self.now.pulls.now in
-    let e : c.loop-j.j ≡ c.args.self.now.set.job.now.ropes = omega arith in
+    let e : c.loop-j.j ≡ P.ropes = omega (arith, c.ropes-j-end.ensures) in
     c.loop-j.invariant ∙ ap (λ (n : ℕ). upto (λ b i. worse P ms z b (Bound i)) (worst_row P ms z) n) e

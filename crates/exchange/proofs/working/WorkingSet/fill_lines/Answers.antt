@@ -23,11 +23,11 @@ loop-r-preserved c =
     let line = get_or ls r [] in
     let lt : r < length ls = omega arith in
     let l : length line ≡ 33 = c.loop-r.invariant.1 r lt in
-    let m : length (take (w - 0) line) ≡ w = rw sub-zero (length-take-le w line (omega (arith, s.job.now.some.1, s.few, c.requires))) in
+    let m : length (take (w - 0) line) ≡ w = rw sub-zero (length-take-le w line (omega (arith, s.job.now.terms.some.1, s.few, c.requires))) in
     let ys = c.fill_line.new.line in
     let x = ys ++ post_of 0 (w - 0) line in
     let q : length ys ≡ w = c.fill_line.auto.line ∙ m in
-    let p : length x ≡ 33 = length-append ys (post_of 0 (w - 0) line) ∙ (let d = length-drop (w - 0) line in omega (arith, s.job.now.some.1, s.few, c.requires)) in (
+    let p : length x ≡ 33 = length-append ys (post_of 0 (w - 0) line) ∙ (let d = length-drop (w - 0) line in omega (arith, s.job.now.terms.some.1, s.few, c.requires)) in (
       below_more _ _
           (λ i h. let ne : i ≢ r = omega arith in ap (take w) (get_or-set_other ls r i x [] ne) ∙ c.loop-r.invariant.0 i h)
           (ap (take w) (get_or-set_same ls r x [] lt) ∙ take_at ys (post_of 0 (w - 0) line) w q ∙ c.fill_line.ensures

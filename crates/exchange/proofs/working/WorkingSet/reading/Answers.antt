@@ -1,4 +1,4 @@
-use Rattle.std.proofs.Common.{◌≡◌, ◌-◌, true, List, length, take, drop, ℤ, sym, refl, ap, ◌∙◌, subst}
+use Rattle.std.proofs.Common.{◌≡◌, ℕ, ◌-◌, true, List, length, take, drop, ℤ, sym, refl, ap, ◌∙◌, subst}
 use Rattle.std.proofs.lemmas.List.FromFn.{length-map-range_with_len}
 use Rattle.job.specs.Numbers.{problem_of}
 use Rattle.duality.specs.Tests.{many_within}
@@ -11,17 +11,18 @@ use Rattle.exchange.proofs.working.WorkingSet.reading.Goals as goal
 pub invariant_of-solution : goal.invariant_of-solution
 invariant_of-solution c =
     let X = c.args.unknowns.now in
-    let n = c.args.self.now.job.now.ropes in
+    let n = (problem_of c.args.self.now.job.now).ropes in
     let m = length c.args.self.now.members.now in
+    let q = c.ropes-ropes.ensures in
     let h = c.requires.all in
     let s = c.split_at_mut-pulls.ensures in
     let P : List ℤ → Type 0 = λ z. many_within n 1073741824 z ≡ true in
     let l = pulls_long n m X h in
     let k = pressures_long n m X h in
-    let x = pulls_are n m X h _ c.rounded-pulls.result s.front c.rounded-pulls.ensures in
-    let y = pressures_are n m X h _ _ c.rounded-pressures.result s.back c.in_parts.ensures c.rounded-pressures.ensures in
+    let x = pulls_are n m X h _ c.rounded-pulls.result (s.front ∙ ap (λ (i : ℕ). take i X) q) c.rounded-pulls.ensures in
+    let y = pressures_are n m X h _ _ c.rounded-pressures.result (s.back ∙ ap (λ (i : ℕ). drop i X) q) c.in_parts.ensures c.rounded-pressures.ensures in
     record {
-      point = subst P (sym (front 16 n (pulled (take n X)) c.rounded-pulls.result l x)) (pulls_point n m X h c.requires.inside);
+      point = subst P (sym (front 16 c.ropes-ropes.result (pulled (take n X)) c.rounded-pulls.result (l ∙ sym q) x)) (pulls_point n m X h c.requires.inside);
       paired = ap length (front 16 m (pressed (drop n X)) c.rounded-pressures.result k y) ∙ k;
     }
 
@@ -29,16 +30,17 @@ pub returns : goal.returns
 returns c =
     let ms = c.args.self.now.members.now in
     let X = c.args.unknowns.now in
-    let n = c.args.self.now.job.now.ropes in
+    let n = (problem_of c.args.self.now.job.now).ropes in
     let m = length ms in
+    let q = c.ropes-ropes.ensures in
     let h = c.requires.all in
     let Q = problem_of c.args.self.now.job.now in
     let s = c.split_at_mut-pulls.ensures in
     let l = pulls_long n m X h in
     let k = pressures_long n m X h in
-    let x = pulls_are n m X h _ c.rounded-pulls.result s.front c.rounded-pulls.ensures in
-    let y = pressures_are n m X h _ _ c.rounded-pressures.result s.back c.in_parts.ensures c.rounded-pressures.ensures in
-    let fx = front 16 n (pulled (take n X)) c.rounded-pulls.result l x in
+    let x = pulls_are n m X h _ c.rounded-pulls.result (s.front ∙ ap (λ (i : ℕ). take i X) q) c.rounded-pulls.ensures in
+    let y = pressures_are n m X h _ _ c.rounded-pressures.result (s.back ∙ ap (λ (i : ℕ). drop i X) q) c.in_parts.ensures c.rounded-pressures.ensures in
+    let fx = front 16 c.ropes-ropes.result (pulled (take n X)) c.rounded-pulls.result (l ∙ sym q) x in
     let fy = front 16 m (pressed (drop n X)) c.rounded-pressures.result k y in
     record {
       offer =
