@@ -1,8 +1,8 @@
 -- Lists of rows, filled number by number and row by row.
-use Rattle.std.proofs.Common.{◌≡◌, ℕ, zero, suc, ◌+◌, ◌-◌, ◌*◌, ◌<◌, ◌≤◌, true, List, [], ◌∷◌, ◌++◌, map, length, ℤ, pos, nat_abs, sym, refl, ap, ◌∙◌, add-mul, add-one, arith}
+use Rattle.std.proofs.Common.{◌≡◌, ℕ, zero, suc, ◌+◌, ◌-◌, ◌*◌, ◌<◌, ◌≤◌, true, List, [], ◌∷◌, ◌++◌, map, length, ℤ, pos, nat_abs, sym, refl, ap, ◌∙◌, le_refl, min, mul-le-mul, add-mul, add-one, arith}
 use Rattle.std.specs.List.{range_with_len, flat_map}
-use Rattle.std.proofs.lemmas.List.FromFn.{length-map-range_with_len, get_or-map-range_with_len}
-use Rattle.std.proofs.lemmas.List.{append-nil, append_assoc, length-append, get_or_append_left, get_or-append_right}
+use Rattle.std.proofs.lemmas.List.FromFn.{length-map-range_with_len, get_or-map-range_with_len, map-range_with_len_more}
+use Rattle.std.proofs.lemmas.List.{append-nil, append_assoc, length-append, get_or_append_left, get_or-append_right, nil_from_length}
 use Rattle.std.proofs.lemmas.Bool.{le-leb}
 use Rattle.duality.specs.Lists.{places, by_rows}
 use Rattle.duality.specs.Sums.{Matrix, Vector}
@@ -48,6 +48,24 @@ module _ (M : Matrix) (k : ℕ) where
       ∙ rows_at (a + 1) n i j (omega arith) m
       ∙ ap (λ (b : ℕ). M b j) f
 
+-- one number more at the end of a row
+pub row_none : (f : Vector) (xs ys : List ℤ) → ys ≡ xs → ys ≡ xs ++ map f (range_with_len 0 0)
+row_none f xs ys e = e ∙ sym (append-nil xs)
+
+pub row_more : (f : Vector) (xs ys zs : List ℤ) (x : ℤ) (j : ℕ) → ys ≡ xs ++ map f (range_with_len 0 j) → zs ≡ ys ++ x ∷ [] → x ≡ f j →
+    zs ≡ xs ++ map f (range_with_len 0 (j + 1))
+row_more f xs ys zs x j inv e here =
+    let m = map-range_with_len_more f 0 j j (omega arith) in
+    e
+    ∙ ap (λ (v : List ℤ). v ++ x ∷ []) inv
+    ∙ append_assoc xs (map f (range_with_len 0 j)) (x ∷ [])
+    ∙ ap (λ (y : ℤ). xs ++ (map f (range_with_len 0 j) ++ y ∷ [])) here
+    ∙ ap (λ (v : List ℤ). xs ++ v) (sym m)
+
+pub row_fits : (f : Vector) (xs ys : List ℤ) (j n room : ℕ) → ys ≡ xs ++ map f (range_with_len 0 j) → j < n → length xs + n ≤ room → length ys < room
+row_fits f xs ys j n room e l h =
+    omega (arith, ap length e, length-append xs (map f (range_with_len 0 j)), length-map-range_with_len f 0 j)
+
 -- one row more at the end of a list
 pub listed_none : (k : ℕ) (M : Matrix) (xs : List ℤ) → xs ≡ [] → xs ≡ listed 0 k M
 unfolding listed
@@ -66,6 +84,21 @@ listed_long n k M = rows_long M k 0 n
 pub listed_at : (n k : ℕ) (M : Matrix) (i j : ℕ) → i < n → j < k → by_rows k (listed n k M) i j ≡ M i j
 unfolding listed
 listed_at n k M i j l m = let f : 0 + i ≡ i = omega arith in rows_at M k 0 n i j l m ∙ ap (λ (b : ℕ). M b j) f
+
+-- there is room for one row more
+pub listed_fits : (i n k room : ℕ) (M : Matrix) (xs : List ℤ) → xs ≡ listed i k M → i < n → n * k ≤ room → length xs + k ≤ room
+listed_fits i n k room M xs e l h =
+    omega (arith, ap length e, listed_long i k M, mul-le-mul {n₁ = suc i} {m₁ = k} {n₂ = n} {m₂ = k} (omega arith) (le_refl k), add-mul i 1 k, add-one i)
+
+-- rows with a number are no more than the room for their numbers
+no_number : (n : ℕ) (M : Matrix) → listed n 0 M ≡ []
+no_number n M = nil_from_length (listed n 0 M) (listed_long n 0 M ∙ omega arith)
+
+pub listed_held : (n k room : ℕ) (M : Matrix) → n * k ≤ room → listed (min n room) k M ≡ listed n k M
+listed_held n zero room M h = no_number (min n room) M ∙ sym (no_number n M)
+listed_held n (suc k) room M h =
+    let e : min n room ≡ n = omega (arith, mul-le-mul {n₁ = n} {m₁ = 1} {n₂ = n} {m₂ = suc k} (le_refl n) (omega arith)) in
+    ap (λ (i : ℕ). listed i (suc k) M) e
 
 -- the same numbers make the same list
 map_same : (f g : Vector) → ((k : ℕ) → f k ≡ g k) → (ks : List ℕ) → map f ks ≡ map g ks

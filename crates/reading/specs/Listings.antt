@@ -2,7 +2,8 @@
 use Rattle.std.specs.Prelude.{◌≡◌, ℕ, ◌<◌, List, ℤ, pos, Some}
 use Rattle.duality.specs.Lists.{by_rows}
 use Rattle.duality.specs.Problem.{Problem}
-use Rattle.table.specs.Grid.{Grid, matrix_of}
+use Rattle.duality.specs.Sums.{Matrix}
+use Rattle.table.specs.Grid.{Grid, height_of, width_of, place_of}
 use Rattle.reading.specs.declared.listing.Listing.{Listing}
 
 -- so many rows of so many numbers, one after the other
@@ -12,10 +13,15 @@ listing_grid height width xs = record { rows = pos height; columns = pos width; 
 abbrev pub grid_of : Listing → Grid
 grid_of t = listing_grid t.height t.width t.numbers.now
 
--- the grid has the problem's matrix G at the places of its ropes
-abbrev pub ShowsG : Problem → Grid → Type 0
-ShowsG P g = (i j : ℕ) → i < P.ropes → j < P.ropes → matrix_of g i j ≡ P.G i j
+-- the grid has n rows and m columns, and the matrix's number at each place
+pub record Shows (n m : ℕ) (M : Matrix) (g : Grid) : Type 0 where
+  pub high : height_of g ≡ n
+  pub wide : width_of g ≡ m
+  pub numbers : (i j : ℕ) → i < n → j < m → place_of g i j ≡ Some (M i j)
 
--- the grid has the problem's matrix A at the places of its rows and ropes
+-- Law: a table is the problem's matrix G, or A.
+abbrev pub ShowsG : Problem → Grid → Type 0
+ShowsG P g = Shows P.ropes P.ropes P.G g
+
 abbrev pub ShowsA : Problem → Grid → Type 0
-ShowsA P a = (i j : ℕ) → i < P.rows → j < P.ropes → matrix_of a i j ≡ P.A i j
+ShowsA P a = Shows P.rows P.ropes P.A a

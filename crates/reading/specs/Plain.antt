@@ -5,26 +5,15 @@ use Rattle.duality.specs.Problem.{Problem, Feasible, cost}
 use Rattle.duality.specs.Sums.{Vector, Matrix}
 use Rattle.table.specs.Grid.{Grid, matrix_of}
 use Rattle.terms.specs.Numbers as terms
-use Rattle.job.specs.Numbers.{Numbers}
+use Rattle.job.specs.Numbers.{Numbers, numbers}
 
 -- n rows of k numbers, one after the other
 unfoldable pub listed : ℕ → ℕ → Matrix → List ℤ
 listed n k M = flat_map (λ i. map (M i) (range_with_len 0 k)) (range_with_len 0 n)
 
--- the numbers of a job: G row by row, A rope by rope, the lists as they stand; a blank is 0
+-- the numbers of a job: the terms as they stand, G row by row, A rope by rope; a blank is 0
 abbrev pub plain : Grid → Grid → terms.Numbers → Numbers
-plain g a x =
-    record {
-      ropes = x.ropes;
-      rows = x.rows;
-      g = listed x.ropes x.ropes (matrix_of g);
-      c = x.c;
-      a = listed x.ropes x.rows (λ j i. matrix_of a i j);
-      lo = x.lo;
-      hi = x.hi;
-      l = x.l;
-      u = x.u;
-    }
+plain g a x = numbers x (listed x.ropes x.ropes (matrix_of g)) (listed x.ropes x.rows (λ j i. matrix_of a i j))
 
 -- two problems of the same sizes, with the same number at each place within them
 pub record Agrees (P Q : Problem) : Type 0 where

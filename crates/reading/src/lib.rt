@@ -7,4 +7,4 @@ mod reads;
 
 pub use listing::Listing;
 pub use matrices::{curvature, rows};
-pub use reads::read_job;
+pub use reads::{numbers_in, read_job};

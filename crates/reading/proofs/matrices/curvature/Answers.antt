@@ -1,12 +1,18 @@
-use Rattle.std.proofs.Common.{List, ℤ, vec_items, ap, ◌∙◌, arith}
-use Rattle.table.specs.Grid.{matrix_of}
-use Rattle.reading.specs.Listings.{listing_grid}
-use Rattle.reading.proofs.Listings.{listing_shows}
+use Rattle.std.proofs.Common.{sym, subst, arith}
+use Rattle.table.specs.Grid.{Grid}
+use Rattle.job.specs.Numbers.{problem_of}
+use Rattle.reading.specs.Listings.{ShowsG}
+use Rattle.reading.proofs.Listings.{same_grid, listing_shows}
 use Rattle.reading.proofs.matrices.curvature.Goals as goal
 
 pub returns : goal.returns
 returns c =
     let job = c.args.job.now in
-    λ i j l m.
-    ap (λ (xs : List ℤ). matrix_of (listing_grid job.ropes job.ropes xs) i j) c.deref.ensures.value
-    ∙ listing_shows job.ropes job.ropes (vec_items job.g) (omega (arith, job.some.1)) (omega (arith, job.some.1)) i j job.matrix.1 l m
+    let P = problem_of job in
+    let value = same_grid _ _ _ _ _ _ c.ropes.ensures c.ropes-2.ensures c.deref.ensures.0 in
+    record {
+      value = value;
+      law =
+          subst (λ (h : Grid). ShowsG P (h)) (sym value)
+          (listing_shows P.ropes P.ropes job.g.items (omega (arith, job.terms.some.1)) (omega (arith, job.terms.some.1)) job.matrix.1);
+    }

@@ -1,13 +1,19 @@
-use Rattle.std.proofs.Common.{List, ℤ, vec_items, ap, ◌∙◌, arith}
-use Rattle.table.specs.Grid.{matrix_of}
+use Rattle.std.proofs.Common.{sym, subst, arith}
+use Rattle.table.specs.Grid.{Grid}
 use Rattle.table.specs.Layers.{flipped}
-use Rattle.reading.specs.Listings.{listing_grid}
-use Rattle.reading.proofs.Listings.{listing_flipped}
+use Rattle.job.specs.Numbers.{problem_of}
+use Rattle.reading.specs.Listings.{ShowsA}
+use Rattle.reading.proofs.Listings.{same_grid, listing_shows_down}
 use Rattle.reading.proofs.matrices.rows.Goals as goal
 
 pub returns : goal.returns
 returns c =
     let job = c.args.job.now in
-    λ i j l m.
-    ap (λ (xs : List ℤ). matrix_of (flipped (listing_grid job.ropes job.rows xs)) i j) c.deref.ensures.value
-    ∙ listing_flipped job.ropes job.rows (vec_items job.a) (omega (arith, job.some.1)) (omega (arith, job.few)) j i job.weights.1 m l
+    let P = problem_of job in
+    let value = same_grid _ _ _ _ _ _ c.ropes.ensures c.rows.ensures c.deref.ensures.0 in
+    record {
+      value = value;
+      law =
+          subst (λ (h : Grid). ShowsA P (flipped h)) (sym value)
+          (listing_shows_down P.ropes P.rows job.a.items (omega (arith, job.terms.some.1)) (omega (arith, job.terms.few)) job.weights.1);
+    }
