@@ -5,7 +5,7 @@ use Rattle.duality.specs.Lists.{places}
 use Rattle.duality.specs.Problem.{Problem}
 use Rattle.duality.proofs.Ring.{lin}
 use Rattle.duality.proofs.Sizes.{nat_abs_neg}
-use Rattle.job.proofs.Bits.{back, back_is, small_of}
+use Rattle.terms.proofs.Bits.{back, back_is, small_of}
 use Rattle.job.specs.Bounds.{InBounds}
 use Rattle.job.specs.declared.numbers.Job.{Job}
 use Rattle.walk.specs.Lowering.{lowers}

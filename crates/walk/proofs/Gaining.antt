@@ -2,7 +2,7 @@
 use Rattle.std.proofs.Common.{◌≡◌, ◌^◌, ◌≤◌, ℤ, ◌+ℤ◌, ◌*ℤ◌, nat_abs, arith, lit<, w64, SFits}
 use Rattle.std.proofs.lemmas.Int.{to_z-of_z}
 use Rattle.duality.proofs.Sizes.{small_add, small_mul}
-use Rattle.job.proofs.Bits.{back, fits}
+use Rattle.terms.proofs.Bits.{back, fits}
 use Rattle.walk.specs.Running.{gain_of}
 
 module _ (slope curve d : ℤ) (hs : nat_abs slope ≤ 2 ^ 41) (hc : nat_abs curve ≤ 1048576) (hd : nat_abs d ≤ 16384) where

@@ -15,3 +15,4 @@ pub mod Steps
 pub mod Turns
 pub mod Lawful
 pub mod Alone
+pub mod Answered

@@ -1,12 +1,14 @@
 -- One turn of a loop that raises each number by d times its weight.
-use Rattle.std.proofs.Common.{◌≡◌, ℕ, ◌+◌, ◌*◌, ◌^◌, ◌<◌, ◌≤◌, ◌≢◌, List, length, get_or, set, vec_items, ℤ, pos, ◌+ℤ◌, ◌*ℤ◌, nat_abs, ap, ◌∙◌, ⊎_elim, arith, lit<, w64, SFits}
+use Rattle.std.proofs.Common.{◌≡◌, ℕ, ◌+◌, ◌*◌, ◌^◌, ◌<◌, ◌≤◌, ◌≢◌, List, length, set, ℤ, pos, ◌+ℤ◌, ◌*ℤ◌, nat_abs, sym, ap, ◌∙◌, subst, ⊎_elim, arith, lit<, w64, SFits}
 use Rattle.std.proofs.lemmas.List.{get_or-set_same, get_or-set_other}
 use Rattle.std.proofs.lemmas.Bool.{cases_lt}
+use Rattle.arrayvec.specs.ArrayVec.{ArrayVec, with_items}
+use Rattle.arrayvec.proofs.ArrayVecLemmas.{items-with_items}
 use Rattle.duality.specs.Lists.{places}
 use Rattle.duality.specs.Sums.{Vector}
 use Rattle.duality.proofs.Sizes.{small_add, small_mul}
-use Rattle.job.proofs.Bits.{back, fits, back_is, small_of, plus_product_fits, plus_product_is}
-use Rattle.job.proofs.Reading.{g_small, g_read}
+use Rattle.terms.proofs.Bits.{back, fits, back_is, small_of, plus_product_fits, plus_product_is}
+use Rattle.job.proofs.Reading.{g_small, g_at}
 use Rattle.job.specs.Numbers.{problem_of}
 use Rattle.job.specs.declared.numbers.Job.{Job}
 use Rattle.walk.specs.Running.{Raised}
@@ -47,16 +49,24 @@ module _ (x w d : ℤ) (hx : nat_abs x ≤ 2 ^ 41) (hw : nat_abs w ≤ 2097152) 
 pub raised_all : (xs ys : List ℤ) (w : Vector) (d e : ℤ) (i : ℕ) → length ys ≡ length xs → length xs ≤ i → e ≡ d → RaisedBelow xs ys w e i → Raised xs ys w d
 raised_all xs ys w d e i long l ed h = record { long = long; each = λ k m. h.0 k (omega arith) ∙ ap (λ (t : ℤ). places xs k +ℤ w k *ℤ t) ed }
 
+-- what a vector of a fixed capacity has once its slice was raised
+pub raised_items : (v : ArrayVec ℤ) (xs ys : List ℤ) (w : Vector) (d : ℤ) → xs ≡ v.items → Raised xs ys w d → Raised v.items (with_items v ys).items w d
+raised_items v xs ys w d e r =
+    subst (λ (zs : List ℤ). Raised v.items zs w d) (sym (items-with_items v ys (r.long ∙ ap length e))) (subst (λ (zs : List ℤ). Raised zs ys w d) e r)
+
 -- a weight of the gradient: what G has for a pair of ropes, both ways
 module _ (j : Job) (i k : ℕ) where
   pub pair_small : nat_abs ((problem_of j).G i k +ℤ (problem_of j).G k i) ≤ 2097152
-  pair_small = small_add 1048576 1048576 ((problem_of j).G i k) ((problem_of j).G k i) (g_small j (i * j.ropes + k)) (g_small j (k * j.ropes + i))
+  pair_small =
+      small_add 1048576 1048576 ((problem_of j).G i k) ((problem_of j).G k i) (g_small j (i * (problem_of j).ropes + k)) (g_small j (k * (problem_of j).ropes + i))
 
-  -- as it is read
-  module _ (x y : ℤ) (ex : x ≡ get_or (vec_items j.g) (i * j.ropes + k) x) (ey : y ≡ get_or (vec_items j.g) (k * j.ropes + i) y) (li : i < j.ropes)
-      (lk : k < j.ropes) where
-    pub pair_is : back x +ℤ back y ≡ (problem_of j).G i k +ℤ (problem_of j).G k i
-    pair_is = let a = g_read j i k x ex li lk in let b = g_read j k i y ey lk li in cc
+  -- as it is read, with as many ropes as the program asked for
+  module _ (n : ℕ) (xs : List ℤ) (en : n ≡ (problem_of j).ropes) (ex : xs ≡ j.g.items) where
+    pub pair_is : back (places xs (i * n + k)) +ℤ back (places xs (k * n + i)) ≡ (problem_of j).G i k +ℤ (problem_of j).G k i
+    pair_is =
+        let a = g_at j i k xs ex in
+        let b = g_at j k i xs ex in
+        rw en cc
 
-    pub pair_fits : SFits w64 (back x +ℤ back y)
-    pair_fits = fits 2097152 (back x +ℤ back y) (small_of 2097152 (back x +ℤ back y) _ pair_is pair_small) (lit< tt)
+    pub pair_fits : SFits w64 (back (places xs (i * n + k)) +ℤ back (places xs (k * n + i)))
+    pair_fits = fits 2097152 _ (small_of 2097152 _ _ pair_is pair_small) (lit< tt)

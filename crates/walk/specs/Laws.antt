@@ -1,20 +1,15 @@
 -- What every walk keeps to, in the words of a problem.
-use Rattle.std.specs.Prelude.{◌≡◌, ℕ, zero, suc, ◌≤◌, true, false, ◌⊎◌, List, ℤ, ◌≤ℤ◌, ◌<ℤ◌, Ok, Err, Result}
+use Rattle.std.specs.Prelude.{◌≡◌, ℕ, zero, suc, ◌≤◌, ◌⊎◌, List, ℤ, ◌≤ℤ◌, ◌<ℤ◌}
 use Rattle.duality.specs.Lists.{places}
 use Rattle.duality.specs.Sums.{Vector}
 use Rattle.duality.specs.Problem.{Problem, cost}
-use Rattle.job.specs.Bounds.{InBounds, is_in_bounds}
-use Rattle.job.specs.Numbers.{has_sizes}
+use Rattle.job.specs.Bounds.{InBounds}
 use Rattle.job.specs.Rows.{outside}
 use Rattle.walk.specs.Moves.{after}
 use Rattle.walk.specs.Order.{Before}
 use Rattle.walk.specs.Lowering.{Below, Step}
-use Rattle.walk.specs.Walks.{walk_from, ended}
 use Rattle.walk.specs.declared.moves.Move.{Move}
 use Rattle.walk.specs.declared.ends.Walked.{Walked}
-use Rattle.walk.specs.declared.ends.Unwalked.{Unwalked}
-use Rattle.walk.specs.declared.ends.Unfit.{Unfit}
-use Rattle.walk.specs.declared.ends.Unfit.TheVariants.{OutOfBounds, OtherSizes}
 use Rattle.walk.specs.declared.ends.End.TheVariants.{Settled, Spent}
 
 -- a move that may be made from z and lowers
@@ -48,15 +43,3 @@ pub record Lawful (P : Problem) (budget : ℕ) (z y : List ℤ) (w : Walked) : T
 -- no other end and report keep to that
 abbrev pub Alone : Problem → (budget : ℕ) → (z y : List ℤ) → Walked → Type 0
 Alone P budget z y w = (y' : List ℤ) (w' : Walked) → Lawful P budget z y' w' → (y' ≡ y) × (w' ≡ w)
-
--- how a call that asks for memory answers, with the point z before and y after it
-abbrev pub Asked : Problem → ℕ → List ℤ → List ℤ → Result Walked Unwalked → Type 0
-Asked P budget z y (Ok w) = (is_in_bounds P z ≡ true) × (ended y w ≡ walk_from P budget z)
-Asked P budget z y (Err Unwalked.OutOfBounds) = (is_in_bounds P z ≡ false) × (y ≡ z)
-Asked P budget z y (Err Unwalked.NoMemory) = (is_in_bounds P z ≡ true) × (y ≡ z)
-
--- how a call answers that is handed room for n ropes and m rows, with the point z before and y after it
-abbrev pub Outcome : Problem → (n m budget : ℕ) → List ℤ → List ℤ → Result Walked Unfit → Type 0
-Outcome P n m budget z y (Ok w) = (has_sizes P n m ≡ true) × (is_in_bounds P z ≡ true) × (ended y w ≡ walk_from P budget z)
-Outcome P n m budget z y (Err OtherSizes) = (has_sizes P n m ≡ false) × (y ≡ z)
-Outcome P n m budget z y (Err OutOfBounds) = (has_sizes P n m ≡ true) × (is_in_bounds P z ≡ false) × (y ≡ z)

@@ -1,9 +1,7 @@
 //! How a walk ends.
-ghost use Rattle.std.specs.Prelude.{◌≡◌, Some};
+ghost use Rattle.std.specs.Prelude.{Some};
 ghost use Rattle.walk.specs.Ends.{name_of};
-ghost use Rattle.walk.specs.declared.ends.Unwalked.TheVariants.{NoMemory};
 
-use std::alloc::AllocError;
 use std::fmt;
 
 #[derive(Clone, Copy, PartialEq, Eq, Debug)]
@@ -32,27 +30,6 @@ pub struct Walked {
     pub end: End,
 }
 
-/// Why no walk was made. The point stands as it was.
+/// Why no walk was made: the list has another length than there are ropes, or a number outside its bounds.
 #[derive(Clone, Copy, PartialEq, Eq, Debug)]
-pub enum Unwalked {
-    /// The list has another length than there are ropes, or a number outside its bounds.
-    OutOfBounds,
-    NoMemory,
-}
-
-impl From<AllocError> for Unwalked {
-    ghost from_gives = { λ _ e. e ≡ NoMemory };
-
-    fn from(_: AllocError) -> Unwalked {
-        Unwalked::NoMemory
-    }
-}
-
-/// Why no walk was made in the room that was handed over. The point stands as it was.
-#[derive(Clone, Copy, PartialEq, Eq, Debug)]
-pub enum Unfit {
-    /// The list has another length than there are ropes, or a number outside its bounds.
-    OutOfBounds,
-    /// The room was made for another number of ropes or rows.
-    OtherSizes,
-}
+pub struct OutOfBounds;

@@ -9,9 +9,10 @@ mod guard;
 mod moves;
 mod room;
 mod searches;
+mod slopes;
+mod sums;
 mod tries;
 mod walks;
 
-pub use ends::{End, Unfit, Unwalked, Walked};
-pub use room::Room;
-pub use walks::{walk, walk_in};
+pub use ends::{End, OutOfBounds, Walked};
+pub use walks::walk;

@@ -23,17 +23,35 @@ pub(crate) struct Shift<'a> {
     pub(crate) job: &'a Job,
     pub(crate) rope: usize,
     pub(crate) by: i64,
-    ghost there: { rope < job.now.ropes },
+    ghost there: { rope < (problem_of job.now).ropes },
     ghost small: { unsigned_abs by ≤ 16384 },
+}
+
+impl Move {
+    /// The move as a change of a job's rope.
+    pub(crate) fn shift(self, job: &Job) -> Shift<'_>
+        requires there { self.rope < (problem_of job.now).ropes }
+        requires small { unsigned_abs self.by ≤ 16384 }
+        ensures job { result.job.now ≡ job.now }
+        ensures rope { result.rope ≡ self.rope }
+        ensures by { result.by ≡ self.by }
+    {
+        Shift {
+            job,
+            rope: self.rope,
+            by: self.by,
+        }
+    }
 }
 
 impl<'a> Shift<'a> {
     /// The weights of the rope in all rows.
     pub(crate) fn weights(self) -> &'a [i64]
-        ensures long { length result.now ≡ self.entry.job.now.rows }
-        ensures are { (i : ℕ) → i < self.entry.job.now.rows → places result.now i ≡ (problem_of self.entry.job.now).A i self.entry.rope }
+        ensures long { length result.now ≡ (problem_of self.entry.job.now).rows }
+        ensures are { (i : ℕ) → i < (problem_of self.entry.job.now).rows → places result.now i ≡ (problem_of self.entry.job.now).A i self.entry.rope }
     {
-        let start = self.rope * self.job.rows;
-        &self.job.a[start..start + self.job.rows]
+        let rows = self.job.rows();
+        let start = self.rope * rows;
+        &self.job.a[start..start + rows]
     }
 }

@@ -8,8 +8,8 @@ use Rattle.walk.proofs.AlongSizes.{left_in}
 use Rattle.walk.proofs.searches.try_rope.Given as goal
 
 abbrev pub invariant-loop-size : goal.invariant-loop-size
-invariant-loop-size l = (l.z ≡ l.fn.z) × (first (lowers (problem_of l.job) l.fn.z) (left_of l.k l.size-index) ≡ first (lowers (problem_of l.job) l.fn.z) (of_rope l.k))
+invariant-loop-size l = (l.z ≡ l.fn.z) × (first (lowers (problem_of l.room.job.now) l.fn.z) (left_of l.rope l.size-index) ≡ first (lowers (problem_of l.room.job.now) l.fn.z) (of_rope l.rope))
 
 abbrev pub invariant-loop-by : goal.invariant-loop-by
 invariant-loop-by l =
-    (l.z ≡ l.fn.z) × (first (lowers (problem_of l.job) l.fn.z) (left_in l.k l.size-index l.size l.by-index) ≡ first (lowers (problem_of l.job) l.fn.z) (of_rope l.k))
+    (l.z ≡ l.fn.z) × (first (lowers (problem_of l.room.job.now) l.fn.z) (left_in l.rope l.size-index l.size l.by-index) ≡ first (lowers (problem_of l.room.job.now) l.fn.z) (of_rope l.rope))

@@ -8,4 +8,9 @@ use Rattle.walk.proofs.walks.descend.Given as goal
 
 abbrev pub invariant-loop-moves : goal.invariant-loop-moves
 invariant-loop-moves l =
-    InBounds (problem_of l.job) l.z × Tracks l.job l.z l.room × (plus l.moves (walk_from (problem_of l.job) (l.budget - l.moves) l.z) ≡ walk_from (problem_of l.job) l.budget l.initial.z)
+    record {
+      same : l.room.job.now ≡ l.job;
+      inside : InBounds (problem_of l.room.job.now) l.z;
+      tracks : Tracks l.room.job.now l.z l.room;
+      rest : plus l.moves (walk_from (problem_of l.job) (l.budget - l.moves) l.z) ≡ walk_from (problem_of l.job) l.budget l.initial.z;
+    }
