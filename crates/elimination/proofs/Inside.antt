@@ -62,19 +62,21 @@ columns_long w (suc m) k s ls =
     go true h = h
     go false h = refl
 
+pub unknowns_solve : (n : ℕ) (ls : List (List Float)) → length ls ≡ n → Solves n (unknowns_of n 0 ls)
+unknowns_solve n ls l = found (unknowns_of n 0 ls) refl
+  where
+    found : (o : Option (List Float)) → unknowns_of n 0 ls ≡ o → Solves n o
+    found None e = tt
+    found (Some us) e = (found_long n 0 ls us e ∙ l, found_inside n 0 ls us e)
+
 -- a system that is solved has an unknown for each line, inside the bound
 pub solves : (s : Float) (ls : List (List Float)) → Solves (length ls) (solved s ls).1
 unfolding solved
-solves s ls = go (triangle_of s ls).whole
+solves s ls = go (triangle_of s ls).whole (unknowns_solve (length ls) (triangle_of s ls).lines (columns_long (length ls + 1) (length ls) 0 s ls))
   where
-    found : (o : Option (List Float)) → unknowns_of (length ls) 0 (triangle_of s ls).lines ≡ o → Solves (length ls) o
-    found None e = tt
-    found (Some us) e =
-        (found_long (length ls) 0 (triangle_of s ls).lines us e ∙ columns_long (length ls + 1) (length ls) 0 s ls, found_inside (length ls) 0 (triangle_of s ls).lines us e)
-
-    go : (b : Bool) → Solves (length ls) (cond b (unknowns_of (length ls) 0 (triangle_of s ls).lines) None)
-    go true = found (unknowns_of (length ls) 0 (triangle_of s ls).lines) refl
-    go false = tt
+    go : (b : Bool) → Solves (length ls) (unknowns_of (length ls) 0 (triangle_of s ls).lines) → Solves (length ls) (cond b (unknowns_of (length ls) 0 (triangle_of s ls).lines) None)
+    go true h = h
+    go false h = tt
 
 half_within : (n d : ℕ) → 0 < d → n < 2 ^ 30 * d → half_away n d ≤ 2 ^ 30
 half_within n d p h =

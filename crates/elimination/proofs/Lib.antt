@@ -6,3 +6,8 @@ pub mod Halves
 pub mod Whole
 pub mod Inside
 pub mod Seen
+pub mod Search
+pub mod Clearing
+pub mod Leading
+pub mod Ending
+pub mod Only

@@ -1,2 +1,3 @@
 pub mod Lines
 pub mod Nearest
+pub mod Runs

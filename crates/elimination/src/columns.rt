@@ -1,6 +1,7 @@
 //! Columns cleared from the left.
-ghost use Rattle.std.specs.Prelude.{◌≡◌, ◌<◌, ◌≤◌, ◌+◌, map, length};
+ghost use Rattle.std.specs.Prelude.{◌≡◌, ℕ, ◌<◌, ◌≤◌, ◌+◌, map, length, MatchOption};
 ghost use Rattle.elimination.specs.Lines.{less, cleared, cleared_below, column_tried, triangle_of};
+ghost use Rattle.elimination.specs.Runs.{Takes, HasNone, ClearedBy, Clears, Triangular};
 
 use crate::pivots::pivot_in_column;
 use crate::squares::LINE_PLACES;
@@ -11,6 +12,7 @@ pub(crate) fn eliminate(lines: &mut [[f64; LINE_PLACES]], smallest: &mut f64) ->
     ensures whole { result ≡ (triangle_of smallest.old lines.old).whole }
     ensures smallest { smallest.new ≡ (triangle_of smallest.old lines.old).least }
     ensures lines { lines.new ≡ (triangle_of smallest.old lines.old).lines }
+    ensures law { Triangular smallest.old lines.old lines.new smallest.new result }
 {
     for k in 0..lines.len() {
         let Some(size) = eliminate_column(lines, k) else {
@@ -27,7 +29,9 @@ pub(crate) fn eliminate(lines: &mut [[f64; LINE_PLACES]], smallest: &mut f64) ->
 fn eliminate_column(lines: &mut [[f64; LINE_PLACES]], k: usize) -> Option<f64>
     requires column { k < length lines.old }
     requires few { length lines.old ≤ 32 }
-    ensures { (result, lines.new) ≡ column_tried (length lines.old + 1) k lines.old }
+    ensures value { (result, lines.new) ≡ column_tried (length lines.old + 1) k lines.old }
+    ensures law { MatchOption result (HasNone lines.old k)
+        (λ s. (p : ℕ) × (Takes lines.old k (record { place = p; size = s }) × Clears (length lines.old + 1) k p lines.old lines.new)) }
 {
     let pivot = pivot_in_column(lines, k);
     if !pivot.can_be_taken() {
@@ -62,7 +66,8 @@ fn clear_lines(lines: &mut [[f64; LINE_PLACES]], k: usize, pivot_line: &[f64])
 fn clear_entry(line: &mut [f64], k: usize, pivot_line: &[f64])
     requires column { k < length pivot_line.now }
     requires width { length pivot_line.now ≤ length line.old }
-    ensures { line.new ≡ cleared k pivot_line.now line.old }
+    ensures value { line.new ≡ cleared k pivot_line.now line.old }
+    ensures law { ClearedBy (length pivot_line.now) k pivot_line.now line.old line.new }
 {
     let f = line[k] / pivot_line[k];
     subtract_multiple(&mut line[k + 1..pivot_line.len()], f, &pivot_line[k + 1..]);

@@ -1,6 +1,7 @@
 //! The pivot of a column.
-ghost use Rattle.std.specs.Prelude.{◌≡◌, ◌<◌, ◌≤◌, length};
+ghost use Rattle.std.specs.Prelude.{◌≡◌, ◌<◌, ◌≤◌, true, false, length};
 ghost use Rattle.elimination.specs.Lines.{pivot_of, takable};
+ghost use Rattle.elimination.specs.Runs.{Takes, HasNone};
 
 use crate::squares::LINE_PLACES;
 
@@ -30,6 +31,8 @@ pub(crate) fn pivot_in_column(lines: &[[f64; LINE_PLACES]], k: usize) -> Pivot
     requires few { length lines.now ≤ 32 }
     ensures value { (result.place, result.size) ≡ pivot_of k lines.now }
     ensures within { result.place < length lines.now }
+    ensures taken { takable result.size ≡ true → Takes lines.now k result }
+    ensures none { takable result.size ≡ false → HasNone lines.now k }
 {
     let mut best = Pivot {
         place: k,

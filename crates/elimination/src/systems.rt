@@ -1,7 +1,8 @@
 //! A system as a whole.
-ghost use Rattle.std.specs.Prelude.{◌≡◌, ◌≤◌, ◌+◌, length};
+ghost use Rattle.std.specs.Prelude.{◌≡◌, ◌≤◌, ◌+◌, length, take};
 ghost use Rattle.std.specs.Option.{option_map};
 ghost use Rattle.elimination.specs.Lines.{solved, solved_in, left, left_in, padded, seen, Solves};
+ghost use Rattle.elimination.specs.Runs.{Eliminates};
 
 use crate::columns::eliminate;
 use crate::squares::{LINE_PLACES, MOST_UNKNOWNS};
@@ -41,6 +42,7 @@ pub fn solve(lines: &mut [[f64; LINE_PLACES]], mut smallest: f64) -> Solution
     ensures unknowns { result.unknowns ≡ option_map padded (solved_in smallest lines.old).1 }
     ensures lines { lines.new ≡ left_in smallest lines.old }
     ensures beyond { solved_in smallest (seen (length lines.old + 1) lines.old) ≡ solved_in smallest lines.old }
+    ensures run { Eliminates smallest lines.old lines.new result.smallest (option_map (take (length lines.old)) result.unknowns) }
     ensures law { Solves (length lines.old) (solved_in smallest lines.old).1 }
 {
     // Lines with a number of places and no `Vec`, because a step of the exchange takes no memory.

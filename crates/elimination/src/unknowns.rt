@@ -1,7 +1,8 @@
 //! The unknowns, from the last up.
-ghost use Rattle.std.specs.Prelude.{◌≡◌, ◌+◌, ◌-◌, ◌<◌, ◌≤◌, length};
+ghost use Rattle.std.specs.Prelude.{◌≡◌, ◌+◌, ◌-◌, ◌<◌, ◌≤◌, length, take};
 ghost use Rattle.std.specs.Option.{option_map};
 ghost use Rattle.elimination.specs.Lines.{rest, inside, unknown_of, unknowns_of, padded};
+ghost use Rattle.elimination.specs.Runs.{Answered};
 
 use crate::squares::{LINE_PLACES, MOST_UNKNOWNS};
 
@@ -11,7 +12,8 @@ const BOUND: f64 = 1073741824.0;
 /// The unknowns, filled up with 0, where each lies inside: they are found from the last up.
 pub(crate) fn back_substitute(lines: &[[f64; LINE_PLACES]]) -> Option<[f64; MOST_UNKNOWNS]>
     requires { length lines.now ≤ 32 }
-    ensures { result ≡ option_map padded (unknowns_of (length lines.now) 0 lines.now) }
+    ensures value { result ≡ option_map padded (unknowns_of (length lines.now) 0 lines.now) }
+    ensures law { Answered (length lines.now) 0 lines.now (option_map (take (length lines.now)) result) }
 {
     let mut unknowns = [0.0; MOST_UNKNOWNS];
     for k in (0..lines.len()).rev() {

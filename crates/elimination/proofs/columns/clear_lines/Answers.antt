@@ -8,5 +8,5 @@ pub loop-line-preserved : goal.loop-line-preserved
 loop-line-preserved c =
     let vs = c.loop-line.lines in
     let i = c.loop-line.line-index in
-    ap (set vs i) c.clear_entry.ensures
+    ap (set vs i) c.clear_entry.ensures.value
     ∙ map_over_more (cleared c.args.k c.args.pivot_line.now) c.args.lines.now vs i (get_or vs i []) c.loop-line-test.true c.loop-line.invariant (get_or_default vs i _ _ (omega arith))

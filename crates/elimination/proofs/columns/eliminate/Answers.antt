@@ -1,7 +1,8 @@
-use Rattle.std.proofs.Common.{◌≡◌, ℕ, ◌+◌, List, length, Some, None, Option, ap, sym, ◌∙◌, subst}
+use Rattle.std.proofs.Common.{◌≡◌, ℕ, ◌+◌, List, length, Some, None, Option, ap, sym, ◌∙◌, subst, arith}
 use native.Mathlib.Nat.{sub-zero}
 use lib.Ieee.{Float}
 use Rattle.elimination.specs.Lines.{column_tried, lesser, Triangle}
+use Rattle.elimination.proofs.Ending.{triangular_from}
 use Rattle.elimination.proofs.Steps.{columns_some, columns_none, columns_all}
 use Rattle.elimination.proofs.columns.eliminate.Goals as goal
 use Rattle.elimination.proofs.columns.eliminate.Goals.{then-size-smallest, else-size-smallest}
@@ -19,20 +20,21 @@ loop-k-preserved c =
       | then-size-smallest w ↦ w.smallest-is ∙ rw w.if-size-smallest.true
       | else-size-smallest w ↦ w.smallest-is ∙ rw w.if-size-smallest.false
     ] in
-    columns_some (n + 1) n k c.loop-k.smallest c.loop-k.lines c.in-Some.size c.if-size-smallest.smallest c.eliminate_column.new.lines c.loop-k-test.true (subst P c.loop-k.auto.lines c.in-Some.ensures) u
+    columns_some (n + 1) n k c.loop-k.smallest c.loop-k.lines c.in-Some.size c.if-size-smallest.smallest c.eliminate_column.new.lines c.loop-k-test.true (subst P c.loop-k.auto.lines c.in-Some.ensures.value) u
     ∙ c.loop-k.invariant
 
 pub returns-in_default : goal.returns-in_default
 returns-in_default c =
     let n = length c.args.lines.now in
     let k = c.loop-k.k in
-    let r = ap (λ z. (z, c.eliminate_column.new.lines)) (sym c.in_default.is) ∙ c.eliminate_column.ensures in
+    let r = ap (λ z. (z, c.eliminate_column.new.lines)) (sym c.in_default.is) ∙ c.eliminate_column.ensures.value in
     let P : ℕ → Type 0 = λ m. ◌≡◌ {A = Option Float × List (List Float)} (None, c.eliminate_column.new.lines) (column_tried (m + 1) k c.loop-k.lines) in
     let e = columns_none (n + 1) n k c.loop-k.smallest c.loop-k.lines c.eliminate_column.new.lines c.loop-k-test.true (subst P c.loop-k.auto.lines r) ∙ c.loop-k.invariant in
     record {
       whole = ap (λ (t : Triangle). t.whole) e;
       smallest = ap (λ (t : Triangle). t.least) e;
       lines = ap (λ (t : Triangle). t.lines) e;
+      law = triangular_from c.args.smallest.now c.args.lines.now (λ i l. omega (arith, c.told-lines i l, c.requires)) _ e;
     }
 
 pub returns : goal.returns
@@ -43,4 +45,5 @@ returns c =
       whole = ap (λ (t : Triangle). t.whole) e;
       smallest = ap (λ (t : Triangle). t.least) e;
       lines = ap (λ (t : Triangle). t.lines) e;
+      law = triangular_from c.args.smallest.now c.args.lines.now (λ i l. omega (arith, c.told-lines i l, c.requires)) _ e;
     }

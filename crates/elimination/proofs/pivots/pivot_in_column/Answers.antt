@@ -1,7 +1,8 @@
 use Rattle.std.proofs.Common.{◌≡◌, ◌+◌, ◌<◌, [], get_or, length, refl, ap, ◌∙◌, arith, add-zero}
 use Rattle.std.proofs.lemmas.List.{drop_all, length-drop, take_rest, get_or-drop}
-use Rattle.elimination.specs.Lines.{at, size_of}
+use Rattle.elimination.specs.Lines.{at, size_of, pivot_of}
 use Rattle.elimination.proofs.Lines.{pick_then, pick_else}
+use Rattle.elimination.proofs.Search.{pivot_taken, pivot_none}
 use Rattle.elimination.proofs.Numbers.{zero_is}
 use Rattle.elimination.proofs.pivots.pivot_in_column.Goals as goal
 use Rattle.elimination.proofs.pivots.pivot_in_column.Goals.{then-size-best, else-size-best}
@@ -37,4 +38,10 @@ returns c =
     let k = c.args.k in
     let d = length-drop k ls in
     let e = drop_all (k + c.loop-i.i) ls (omega arith) in
-    record { value = rw e at c.loop-i.invariant.0; within = c.loop-i.invariant.1 }
+    let q : (c.loop-i.best.place, c.loop-i.best.size) ≡ pivot_of k ls = rw e at c.loop-i.invariant.0 in
+    record {
+      value = q;
+      within = c.loop-i.invariant.1;
+      taken = λ t. pivot_taken k ls c.loop-i.best (omega (arith, c.requires.column)) q t;
+      none = λ t. pivot_none k ls c.loop-i.best.place c.loop-i.best.size (omega (arith, c.requires.column)) q t;
+    }

@@ -1,5 +1,8 @@
-use Rattle.std.proofs.Common.{◌≡◌, true, leb, length, le-leb}
+use Rattle.std.proofs.Common.{◌∙◌, ap, ◌≡◌, true, leb, length, le-leb, take, arith}
+use Rattle.elimination.specs.Lines.{solved}
 use Rattle.elimination.proofs.Inside.{solves}
+use Rattle.std.specs.Option.{option_map}
+use Rattle.elimination.proofs.Ending.{taken_out, eliminates}
 use Rattle.elimination.proofs.Seen.{solved_in_seen}
 use Rattle.elimination.proofs.systems.solve.Goals as goal
 
@@ -14,3 +17,12 @@ returns-else-lines-gt-MOST_UNKNOWNS-clause-law c =
     let ls = c.args.lines.now in
     let b : leb (length ls) 32 ≡ true = le-leb _ _ c.if-lines-gt-MOST_UNKNOWNS.false in
     rw b (solves c.args.smallest ls)
+
+pub returns-else-lines-gt-MOST_UNKNOWNS-clause-run : goal.returns-else-lines-gt-MOST_UNKNOWNS-clause-run
+returns-else-lines-gt-MOST_UNKNOWNS-clause-run c =
+    let s = c.args.smallest in
+    let ls = c.args.lines.now in
+    let h = c.unknowns_of_system-unknowns.ensures in
+    let b : leb (length ls) 32 ≡ true = le-leb _ _ c.if-lines-gt-MOST_UNKNOWNS.false in
+    eliminates s ls (λ l i t. omega (arith, c.told-lines i t)) _ _ _ (h.lines ∙ rw b) (h.smallest ∙ rw b)
+    (ap (option_map (take (length ls))) h.unknowns ∙ taken_out (length ls) (solved s ls).1 (solves s ls) ∙ rw b)

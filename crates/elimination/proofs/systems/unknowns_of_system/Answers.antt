@@ -11,7 +11,7 @@ returns-then-eliminate c =
     let h = c.eliminate.ensures in
     record {
       smallest = h.smallest ∙ least_is s ls;
-      unknowns = c.back_substitute.ensures ∙ ap (option_map padded) (found_whole s ls c.eliminate.new.lines h.lines (sym h.whole ∙ c.if-eliminate.true));
+      unknowns = c.back_substitute.ensures.value ∙ ap (option_map padded) (found_whole s ls c.eliminate.new.lines h.lines (sym h.whole ∙ c.if-eliminate.true));
       lines = h.lines ∙ left_is s ls;
     }
 

@@ -5,6 +5,7 @@ use Rattle.std.specs.Option.{option_map}
 use Rattle.elimination.specs.Lines.{unknowns_of, padded}
 use Rattle.elimination.proofs.Numbers.{zero_is}
 use Rattle.elimination.proofs.Back.{none_yet, all_found, one_found, one_outside}
+use Rattle.elimination.proofs.Ending.{answered}
 use Rattle.elimination.proofs.unknowns.back_substitute.Goals as goal
 
 pub unknown-x-requires : goal.unknown-x-requires
@@ -41,9 +42,10 @@ returns-then-not-is_inside c =
     let j = c.loop-k.k - 1 in
     let e : c.loop-k.k ≡ j + 1 = omega arith in
     let P : ℕ → Type 0 = λ k. unknowns_of (length ls) k (drop k ls) ≡ Some (drop k (take (length ls) us)) in
-    ap (option_map padded)
+    let r = ap (option_map padded)
     (one_outside ls us (omega (arith, c.loop-k.invariant.1)) j (omega arith) c.unknown-x.result c.unknown-x.ensures (subst P e c.loop-k.invariant.0)
-    (sym c.if-not-is_inside.ensures))
+    (sym c.if-not-is_inside.ensures)) in
+    record { value = r; law = answered ls _ r }
 
 pub returns : goal.returns
 returns c =
@@ -51,4 +53,5 @@ returns c =
     let us = c.loop-k.unknowns in
     let e : c.loop-k.k ≡ 0 = omega arith in
     let P : ℕ → Type 0 = λ k. unknowns_of (length ls) k (drop k ls) ≡ Some (drop k (take (length ls) us)) in
-    all_found ls us (omega (arith, c.loop-k.invariant.1)) (subst P e c.loop-k.invariant.0) c.loop-k.invariant.2
+    let r = all_found ls us (omega (arith, c.loop-k.invariant.1)) (subst P e c.loop-k.invariant.0) c.loop-k.invariant.2 in
+    record { value = r; law = answered ls _ r }
