@@ -66,9 +66,8 @@ LEAST, MOST = 2.0**-20, 2.0**60
 BOUND = float(2**30)
 
 
-def solve_system(lines, smallest):
-    """(smallest pivot size, unknowns or None) of lines of n coefficients and a right side."""
-    lines = [list(line) for line in lines]
+def solve_in_place(lines, smallest):
+    """(smallest pivot size, unknowns or None) of lines of n coefficients and a right side. What a line has beyond that goes with it."""
     n = len(lines)
     for k in range(n):
         size, place = 0.0, k
@@ -92,6 +91,11 @@ def solve_system(lines, smallest):
         if not abs(unknowns[k]) < BOUND:
             return smallest, None
     return smallest, unknowns
+
+
+def solve_system(lines, smallest):
+    """The same of lines that stay."""
+    return solve_in_place([list(line) for line in lines], smallest)
 
 
 def nearest(x):

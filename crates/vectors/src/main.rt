@@ -1,10 +1,11 @@
 //! Runs the two halves of the solver on cases that an outside program made, a case to a line, and prints what comes out.
 //!
 //! A line that begins with 0 is a walk: the number of ropes, rows and moves, and then G row by row, c, A rope by rope,
-//! the limits lo and hi, the bounds l and u, and the point that the walk starts from.
-//! One that begins with 1 is a system: the number of unknowns, and then line by line its coefficients and the right side,
-//! each float as m and e for m times 2 to the e. Floats are answered by their 64 bits.
-//! One that begins with 2 is an exchange, written as a walk is, with steps in the place of moves.
+//! the limits lo and hi, the bounds l and u, and, to the end of the line, the point that the walk starts from.
+//! One that begins with 1 is a system: the number of unknowns and the smallest pivot so far, and then line by line its coefficients and the right side.
+//! Each float stands as m and e for m times 2 to the e; m = 0 with an e above 0 is no number. Floats are answered by their 64 bits,
+//! and the lines that a system leaves by a sum over theirs.
+//! One that begins with 2 is an exchange, written as a walk is, with steps in the place of moves and no point.
 #![tactic(auto)]
 
 use anyhow::{Context, anyhow, ensure};
@@ -15,8 +16,12 @@ use std::alloc::Global;
 use std::io;
 use std::io::{BufRead, BufReader};
 use std::num::nearest_i64_to_f64;
-use walk::{Walked, walk};
+use terms::Terms;
+use walk::walk;
 use wire::{bits, run};
+
+/// A case may have one unknown more than a system.
+const MOST_LINES: usize = MOST_UNKNOWNS + 1;
 
 fn numbers(heap: Global, line: &str) -> anyhow::Result<Vec<i64>> {
     let mut numbers = Vec::new(heap);
@@ -43,6 +48,12 @@ impl<'a> Line<'a> {
         size.context("a size is negative")
     }
 
+    fn float(&mut self) -> anyhow::Result<f64> {
+        let m = self.number()?;
+        let e = self.number()?;
+        Ok(scaled(m, e))
+    }
+
     fn list(&mut self, heap: Global, count: usize) -> anyhow::Result<Vec<i64>> {
         let list = run(&mut self.left, count);
         ensure!(list.len() == count, "a line ends early");
@@ -50,16 +61,18 @@ impl<'a> Line<'a> {
     }
 }
 
-fn print_walk(rt: &HostRuntime, walked: &Walked, point: &[i64]) -> io::Result<()> {
-    print!(rt; "walk {} {}", walked.moves, walked.end)?;
+fn print_point(rt: &HostRuntime, point: &[i64]) -> io::Result<()> {
     for z in point {
         print!(rt; " {z}")?;
     }
     println!(rt; "")
 }
 
-/// m times 2 to the e, for an m of at most 53 bits and a product that is no subnormal.
+/// m times 2 to the e, for an m of at most 53 bits; no number for m = 0 and an e above 0.
 fn scaled(m: i64, e: i64) -> f64 {
+    if m == 0 && e > 0 {
+        return f64::NAN;
+    }
     let mut x = nearest_i64_to_f64(m);
     for _ in 0..e {
         x *= 2.0;
@@ -73,36 +86,59 @@ fn scaled(m: i64, e: i64) -> f64 {
 fn print_solution(rt: &HostRuntime, n: usize, solution: &Solution) -> io::Result<()> {
     let smallest = bits(solution.smallest);
     let Some(unknowns) = solution.unknowns else {
-        return println!(rt; "stuck {smallest}");
+        return print!(rt; "stuck {smallest}");
     };
     print!(rt; "solved {smallest}")?;
     for x in unknowns.into_iter().take(n) {
         print!(rt; " {} {}", bits(x), nearest(x))?;
     }
-    println!(rt; "")
+    Ok(())
+}
+
+/// Reads the lines of a system. The place after the right side, where there is one, gets the line's number, which shows where the line goes.
+fn read_lines(line: &mut Line, lines: &mut [[f64; LINE_PLACES]]) -> anyhow::Result<()> {
+    let width = lines.len() + 1;
+    let mut number = 0.0;
+    for places in lines {
+        for x in places.iter_mut().take(width) {
+            *x = line.float()?;
+        }
+        if let Some(place) = places.get_mut(width) {
+            *place = number;
+        }
+        number += 1.0;
+    }
+    Ok(())
+}
+
+/// A sum over the bits of all places, which tells them apart by where they stand.
+fn sum_of(lines: &[[f64; LINE_PLACES]]) -> u64 {
+    let mut sum = 0u64;
+    for places in lines {
+        for x in places.iter().take(lines.len() + 2) {
+            sum = sum.wrapping_mul(1_000_003).wrapping_add(bits(*x));
+        }
+    }
+    sum
 }
 
 fn run_system(rt: &HostRuntime, line: &mut Line) -> anyhow::Result<()> {
     let n = line.size()?;
-    ensure!(n <= MOST_UNKNOWNS, "a system has {n} unknowns");
-    let mut lines = [[0.0; LINE_PLACES]; MOST_UNKNOWNS];
-    for row in lines.iter_mut().take(n) {
-        for x in row.iter_mut().take(n + 1) {
-            let m = line.number()?;
-            let e = line.number()?;
-            *x = scaled(m, e);
-        }
-    }
-    let most = scaled(1, 60);
-    Ok(print_solution(rt, n, &solve(&mut lines[..n], most))?)
+    ensure!(n <= MOST_LINES, "a system has {n} unknowns");
+    let smallest = line.float()?;
+    let mut square = [[0.0; LINE_PLACES]; MOST_LINES];
+    let lines = &mut square[..n];
+    read_lines(line, lines)?;
+    let solution = solve(lines, smallest);
+    print_solution(rt, n, &solution)?;
+    Ok(println!(rt; " left {}", sum_of(lines))?)
 }
 
-/// A job, the budget and the point that it starts from.
+/// A job and the budget.
 #[derive(Drop)]
 struct Case {
     job: Job,
     budget: usize,
-    point: Vec<i64>,
 }
 
 fn read_case(heap: Global, line: &mut Line) -> anyhow::Result<Option<Case>> {
@@ -116,17 +152,19 @@ fn read_case(heap: Global, line: &mut Line) -> anyhow::Result<Option<Case>> {
     let hi = line.list(heap, m)?;
     let l = line.list(heap, n)?;
     let u = line.list(heap, n)?;
-    let point = line.list(heap, n)?;
-    Ok(Job::new(g, c, a, lo, hi, l, u).map(|job| Case { job, budget, point }))
+    let job = Terms::new(&c, &l, &u, &lo, &hi).and_then(|terms| Job::new(terms, &g, &a));
+    Ok(job.map(|job| Case { job, budget }))
 }
 
-fn run_walk(rt: &HostRuntime, heap: Global, mut case: Case) -> anyhow::Result<()> {
+/// Walks from the point that the rest of the line has.
+fn run_walk(rt: &HostRuntime, heap: Global, case: &Case, start: &[i64]) -> anyhow::Result<()> {
     let budget = u32::try_from(case.budget).context("too many moves")?;
-    match walk(heap, &case.job, case.point.as_mut_slice(), budget) {
-        Ok(walked) => print_walk(rt, &walked, case.point.as_slice())?,
-        Err(_) => println!(rt; "no walk")?,
+    let mut point = Vec::from_slice(heap, start)?;
+    match walk(&case.job, point.as_mut_slice(), budget) {
+        Ok(walked) => print!(rt; "walk {} {}", walked.moves, walked.end)?,
+        Err(_) => print!(rt; "refused")?,
     }
-    Ok(())
+    Ok(print_point(rt, point.as_slice())?)
 }
 
 fn print_report(rt: &HostRuntime, report: &Report) -> io::Result<()> {
@@ -140,20 +178,20 @@ fn print_report(rt: &HostRuntime, report: &Report) -> io::Result<()> {
 
 fn print_offer(rt: &HostRuntime, job: &Job, offer: &Offer) -> io::Result<()> {
     print!(rt; " ;")?;
-    for z in offer.point.iter().take(job.ropes) {
+    for z in offer.point.iter().take(job.ropes()) {
         print!(rt; " {z}")?;
     }
-    for y in offer.multipliers.iter().take(job.rows) {
+    for y in offer.multipliers.iter().take(job.rows()) {
         print!(rt; " {y}")?;
     }
     Ok(())
 }
 
-fn run_exchange(rt: &HostRuntime, heap: Global, case: &Case) -> anyhow::Result<()> {
-    print_report(rt, &exchange::run(heap, &case.job, case.budget)?)?;
-    let mut exchange = Exchange::new(heap, &case.job)?;
+fn run_exchange(rt: &HostRuntime, case: &Case) -> io::Result<()> {
+    print_report(rt, &exchange::run(&case.job, case.budget))?;
+    let mut exchange = Exchange::new(&case.job);
     for _ in 0..case.budget {
-        let step = exchange.step(&case.job);
+        let step = exchange.step();
         if let Step::Found(offer, _) = step {
             print_offer(rt, &case.job, &offer)?;
         }
@@ -161,8 +199,7 @@ fn run_exchange(rt: &HostRuntime, heap: Global, case: &Case) -> anyhow::Result<(
             break;
         }
     }
-    println!(rt; "")?;
-    Ok(())
+    println!(rt; "")
 }
 
 /// What a line asks for.
@@ -193,8 +230,8 @@ fn run_line(rt: &HostRuntime, heap: Global, line: &mut Line) -> anyhow::Result<(
         return Ok(println!(rt; "no job")?);
     };
     match kind {
-        Kind::Walk => run_walk(rt, heap, case),
-        _ => run_exchange(rt, heap, &case),
+        Kind::Walk => run_walk(rt, heap, &case, line.left),
+        _ => Ok(run_exchange(rt, &case)?),
     }
 }
 
