@@ -1,5 +1,5 @@
 -- Points inside their bounds, and points held there.
-use Rattle.std.proofs.Common.{◌≡◌, ℕ, ◌+◌, ◌<◌, ◌≤◌, Bool, true, false, eqb, ◌≢◌, List, map, length, set, ℤ, pos, ◌≤ℤ◌, is_some, Option, Decides, min, not, sym, ap, ◌∙◌, ⊎_elim, arith}
+use Rattle.std.proofs.Common.{◌≡◌, ℕ, ◌+◌, ◌<◌, ◌≤◌, Bool, true, false, eqb, ◌≢◌, List, map, length, set, ℤ, pos, ◌-ℤ◌, nat_abs, ◌≤ℤ◌, is_some, Option, Decides, min, not, sym, ap, ◌∙◌, ⊎_elim, arith}
 use Rattle.std.specs.List.{range_with_len}
 use Rattle.std.specs.Int.{int_max, int_min}
 use Rattle.std.proofs.lemmas.List.FromFn.{fill_by_all}
@@ -9,10 +9,11 @@ use Rattle.std.proofs.lemmas.Bool.{cases_lt, and_parts, and_from, and_left, ne_e
 use Rattle.duality.specs.Lists.{places}
 use Rattle.duality.specs.Problem.{Problem}
 use Rattle.duality.proofs.Ring.{lin}
+use Rattle.duality.proofs.Sizes.{sizes}
 use Rattle.duality.specs.Tests.{all, between, first_not}
 use Rattle.terms.proofs.Firsts.{all_from_none}
 use Rattle.job.specs.Numbers.{problem_of}
-use Rattle.job.specs.Bounds.{InBounds, is_in_bounds, held, clamped}
+use Rattle.job.specs.Bounds.{InBounds, is_in_bounds, held, clamped, HeldInside}
 use Rattle.job.specs.declared.numbers.Job.{Job}
 use Rattle.duality.proofs.Tests.{all_at, all_from, between_parts, between_from, ordered_at}
 
@@ -89,10 +90,21 @@ module _ (j : Job) where
   pub open_at : (k : ℕ) → k < (problem_of j).ropes → (problem_of j).l k ≤ℤ (problem_of j).u k
   open_at k l = ordered_at _ _ k j.terms.wide (omega (arith, j.terms.lefts.0))
 
+  -- of the numbers from low to high none lies nearer to x
+  held_nearest : (low high x w : ℤ) → low ≤ℤ w → w ≤ℤ high → nat_abs (held low high x -ℤ x) ≤ nat_abs (w -ℤ x)
+  held_nearest low high x w h k = omega (arith, lin, clamps, sizes)
+
   pub held_in_bounds : (z y : List ℤ) (i : ℕ) → length z ≡ (problem_of j).ropes → length y ≡ length z → (problem_of j).ropes ≤ i → HeldBelow z y i → InBounds (problem_of j) y
   held_in_bounds z y i lz ly le h =
       record {
         long = ly ∙ lz;
         not_below = λ k l. rw (h.0 k (omega arith)) (held_inside ((problem_of j).l k) ((problem_of j).u k) (places z k) (open_at k l)).0;
         not_above = λ k l. rw (h.0 k (omega arith)) (held_inside ((problem_of j).l k) ((problem_of j).u k) (places z k) (open_at k l)).1;
+      }
+
+  pub held_law : (z y : List ℤ) (i : ℕ) → length z ≡ (problem_of j).ropes → length y ≡ length z → (problem_of j).ropes ≤ i → HeldBelow z y i → HeldInside (problem_of j) z y
+  held_law z y i lz ly le h =
+      record {
+        inside = held_in_bounds z y i lz ly le h;
+        nearest = λ k l w hl hu. rw (h.0 k (omega arith)) (held_nearest ((problem_of j).l k) ((problem_of j).u k) (places z k) w hl hu);
       }

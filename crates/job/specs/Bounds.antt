@@ -1,5 +1,5 @@
 -- Points inside the bounds of a problem.
-use Rattle.std.specs.Prelude.{◌≡◌, ℕ, ◌<◌, Bool, cond, ◌&&◌, List, map, length, ℤ, ◌≤ℤ◌, ◌==◌}
+use Rattle.std.specs.Prelude.{◌≡◌, ℕ, ◌<◌, ◌≤◌, Bool, cond, ◌&&◌, List, map, length, ℤ, ◌-ℤ◌, ◌≤ℤ◌, unsigned_abs, ◌==◌}
 use Rattle.std.specs.List.{range_with_len}
 use Rattle.std.specs.Int.{int_max, int_min}
 use Rattle.duality.specs.Lists.{places}
@@ -24,3 +24,8 @@ held low high x = int_max low (int_min high x)
 abbrev pub clamped : Problem → List ℤ → List ℤ
 clamped P z =
     cond (length z == P.ropes) (map (λ k. held (P.l k) (P.u k) (places z k)) (range_with_len 0 P.ropes)) z
+
+-- Law: z held inside the bounds is y. It lies inside them, and no number that does lies nearer to the one that stood there.
+pub record HeldInside (P : Problem) (z y : List ℤ) : Type 0 where
+  pub inside : InBounds P y
+  pub nearest : (k : ℕ) → k < P.ropes → (w : ℤ) → P.l k ≤ℤ w → w ≤ℤ P.u k → unsigned_abs (places y k -ℤ places z k) ≤ unsigned_abs (w -ℤ places z k)

@@ -43,7 +43,3 @@ problem x =
 -- the problem that a job stands for
 abbrev pub problem_of : Job → Problem
 problem_of j = problem (numbers_of j)
-
--- a problem of n ropes and m rows
-abbrev pub has_sizes : Problem → ℕ → ℕ → Bool
-has_sizes P n m = P.ropes == n && P.rows == m

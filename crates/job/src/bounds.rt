@@ -1,7 +1,7 @@
 //! Points and their bounds.
 ghost use Rattle.std.specs.Prelude.{◌≡◌, true, length, Decides, ◌==◌};
 ghost use Rattle.job.specs.Numbers.{problem_of};
-ghost use Rattle.job.specs.Bounds.{clamped, is_in_bounds, InBounds};
+ghost use Rattle.job.specs.Bounds.{clamped, is_in_bounds, InBounds, HeldInside};
 
 use crate::numbers::Job;
 use terms::first_outside;
@@ -19,7 +19,7 @@ impl Job {
     pub fn clamp(&self, z: &mut [i64]) -> bool
         ensures value { result ≡ (length z.old == (problem_of self.now).ropes) }
         ensures after { z.new ≡ clamped (problem_of self.now) z.old }
-        ensures law { result ≡ true → InBounds (problem_of self.now) z.new }
+        ensures law { result ≡ true → HeldInside (problem_of self.now) z.old z.new }
     {
         if z.len() != self.ropes() {
             return false;

@@ -8,7 +8,7 @@ use Rattle.duality.specs.Lists.{places, by_rows}
 use Rattle.duality.specs.Sums.{Matrix, Vector}
 use Rattle.duality.specs.Tests.{within, all_within}
 use Rattle.duality.proofs.Tests.{all_from}
-use Rattle.reading.specs.Plain.{listed}
+use Rattle.reading.specs.Plain.{listed, RowByRow}
 
 abbrev rows_from : Matrix → ℕ → ℕ → ℕ → List ℤ
 rows_from M k a n = flat_map (λ i. map (M i) (range_with_len 0 k)) (range_with_len a n)
@@ -84,6 +84,10 @@ listed_long n k M = rows_long M k 0 n
 pub listed_at : (n k : ℕ) (M : Matrix) (i j : ℕ) → i < n → j < k → by_rows k (listed n k M) i j ≡ M i j
 unfolding listed
 listed_at n k M i j l m = let f : 0 + i ≡ i = omega arith in rows_at M k 0 n i j l m ∙ ap (λ (b : ℕ). M b j) f
+
+pub listed_rows : (n k : ℕ) (M : Matrix) (xs : List ℤ) → xs ≡ listed n k M → RowByRow n k M xs
+listed_rows n k M xs e =
+    record { long = ap length e ∙ listed_long n k M; numbers = λ i j l m. ap (λ (ys : List ℤ). by_rows k ys i j) e ∙ listed_at n k M i j l m }
 
 -- there is room for one row more
 pub listed_fits : (i n k room : ℕ) (M : Matrix) (xs : List ℤ) → xs ≡ listed i k M → i < n → n * k ≤ room → length xs + k ≤ room

@@ -1,6 +1,7 @@
 -- Tables and terms as plain numbers, and what it means that two problems agree.
-use Rattle.std.specs.Prelude.{◌≡◌, ℕ, ◌<◌, List, map, ℤ}
+use Rattle.std.specs.Prelude.{◌≡◌, ℕ, ◌*◌, ◌<◌, List, map, length, ℤ}
 use Rattle.std.specs.List.{range_with_len, flat_map}
+use Rattle.duality.specs.Lists.{by_rows}
 use Rattle.duality.specs.Problem.{Problem, Feasible, cost}
 use Rattle.duality.specs.Sums.{Vector, Matrix}
 use Rattle.table.specs.Grid.{Grid, matrix_of}
@@ -10,6 +11,11 @@ use Rattle.job.specs.Numbers.{Numbers, numbers}
 -- n rows of k numbers, one after the other
 unfoldable pub listed : ℕ → ℕ → Matrix → List ℤ
 listed n k M = flat_map (λ i. map (M i) (range_with_len 0 k)) (range_with_len 0 n)
+
+-- Law: a list has n rows of k numbers, and the matrix's number at each place of them.
+pub record RowByRow (n k : ℕ) (M : Matrix) (xs : List ℤ) : Type 0 where
+  pub long : length xs ≡ n * k
+  pub numbers : (i j : ℕ) → i < n → j < k → by_rows k xs i j ≡ M i j
 
 -- the numbers of a job: the terms as they stand, G row by row, A rope by rope; a blank is 0
 abbrev pub plain : Grid → Grid → terms.Numbers → Numbers

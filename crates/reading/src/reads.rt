@@ -1,5 +1,5 @@
 //! Each place of a table is asked once.
-ghost use Rattle.std.specs.Prelude.{◌≡◌, ◌+◌, ◌*◌, ◌≤◌, ◌++◌, map, length, nat_le};
+ghost use Rattle.std.specs.Prelude.{◌≡◌, ◌+◌, ◌*◌, ◌≤◌, ◌++◌, map, length, nat_le, IfSome};
 ghost use Rattle.std.specs.List.{range_with_len};
 ghost use Rattle.std.specs.Option.{option_map};
 ghost use Rattle.duality.specs.Tests.{answer};
@@ -7,7 +7,7 @@ ghost use Rattle.table.specs.Grid.{matrix_of};
 ghost use Rattle.terms.specs.Numbers.{numbers_of as terms_of};
 ghost use Rattle.evaluate.specs.Stated.{problem_of as stated};
 ghost use Rattle.job.specs.Numbers.{numbers_of, problem_of};
-ghost use Rattle.reading.specs.Plain.{listed, plain, Agrees, SamePoints};
+ghost use Rattle.reading.specs.Plain.{listed, plain, Agrees, RowByRow, SamePoints};
 
 use arrayvec::ArrayVec;
 use job::Job;
@@ -44,7 +44,8 @@ pub fn numbers_in<T: Table, const N: usize>(
     rows: usize,
     columns: usize,
 ) -> Option<ArrayVec<i64, N>>
-    ensures { option_map (λ v. v.items) result ≡ answer (nat_le (rows * columns) N) (listed rows columns (matrix_of (T.Table.meant table.now))) }
+    ensures value { option_map (λ v. v.items) result ≡ answer (nat_le (rows * columns) N) (listed rows columns (matrix_of (T.Table.meant table.now))) }
+    ensures law { IfSome result (λ v. RowByRow rows columns (matrix_of (T.Table.meant table.now)) v.items) }
 {
     if !have_room(rows, columns, N) {
         return None;

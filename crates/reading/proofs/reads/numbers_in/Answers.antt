@@ -2,7 +2,7 @@ use Rattle.std.proofs.Common.{◌≡◌, ℕ, Some, None, List, ℤ, min, sym, a
 use Rattle.std.proofs.lemmas.Bool.{leb-true, cond-true}
 use Rattle.table.specs.Grid.{matrix_of}
 use Rattle.reading.specs.Plain.{listed}
-use Rattle.reading.proofs.Listed.{listed_none, listed_more, listed_fits, listed_held}
+use Rattle.reading.proofs.Listed.{listed_none, listed_more, listed_fits, listed_held, listed_rows}
 use Rattle.reading.proofs.reads.numbers_in.Goals as goal
 
 pub loop-i-init : goal.loop-i-init
@@ -25,5 +25,8 @@ returns g c =
     let M = matrix_of (g.T.Table.meant c.args.table.now) in
     let fit = sym c.if-not-have_room.ensures in
     let e : c.loop-i.i ≡ min c.args.rows _ = omega (arith, c.loop-i-test.false, c.loop-i.auto.i-end, c.min-i-end.ensures) in
-    ap (λ (xs : List ℤ). Some xs) (c.loop-i.invariant ∙ ap (λ (n : ℕ). listed n c.args.columns M) e ∙ listed_held c.args.rows c.args.columns _ M (leb-true _ _ fit))
-    ∙ sym (cond-true _ (Some (listed c.args.rows c.args.columns M)) None fit)
+    let all = c.loop-i.invariant ∙ ap (λ (n : ℕ). listed n c.args.columns M) e ∙ listed_held c.args.rows c.args.columns _ M (leb-true _ _ fit) in
+    record {
+      value = ap (λ (xs : List ℤ). Some xs) all ∙ sym (cond-true _ (Some (listed c.args.rows c.args.columns M)) None fit);
+      law = listed_rows c.args.rows c.args.columns M c.loop-i.list.items all;
+    }

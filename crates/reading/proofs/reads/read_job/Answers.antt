@@ -11,16 +11,16 @@ invariant_of-result g c =
     let gm = g.G.Table.meant c.args.g.now in
     let n = c.ropes-ropes.ensures ∙ sym (ap (λ (x : Terms). x.ropes) c.copy_of.ensures) in
     let m = c.rows.ensures ∙ sym (ap (λ (x : Terms). x.rows) c.copy_of.ensures) in
-    let gs = read_is _ _ _ (matrix_of gm) c.numbers_in.result c.unwrap.result c.numbers_in.ensures c.unwrap.ensures in
-    let ws = read_is _ _ _ _ c.numbers_in-2.result c.unwrap-2.result c.numbers_in-2.ensures c.unwrap-2.ensures in
+    let gs = read_is _ _ _ (matrix_of gm) c.numbers_in.result c.unwrap.result c.numbers_in.ensures.value c.unwrap.ensures in
+    let ws = read_is _ _ _ _ c.numbers_in-2.result c.unwrap-2.result c.numbers_in-2.ensures.value c.unwrap-2.ensures in
     record { matrix = kept _ _ _ _ gm _ gs n n; weights = kept _ _ _ _ (flipped (g.A.Table.meant c.over.result.below.now)) _ ws n m }
 
 pub returns : goal.returns
 returns g c =
     let gm = g.G.Table.meant c.args.g.now in
     let am = g.A.Table.meant c.args.a.now in
-    let gs = read_is _ _ _ (matrix_of gm) c.numbers_in.result c.unwrap.result c.numbers_in.ensures c.unwrap.ensures in
-    let ws = read_is _ _ _ _ c.numbers_in-2.result c.unwrap-2.result c.numbers_in-2.ensures c.unwrap-2.ensures in
+    let gs = read_is _ _ _ (matrix_of gm) c.numbers_in.result c.unwrap.result c.numbers_in.ensures.value c.unwrap.ensures in
+    let ws = read_is _ _ _ _ c.numbers_in-2.result c.unwrap-2.result c.numbers_in-2.ensures.value c.unwrap-2.ensures in
     let value = read_plain gm am (terms_of c.args.terms.now) (terms_of c.copy_of.result) _ _ _ _ _ c.ropes-ropes.ensures c.rows.ensures
     (ap (λ r. flipped (g.A.Table.meant r.now)) c.over.ensures.holds) c.copy_of.ensures gs ws in
     let law = job_agrees gm am c.args.terms.now _ value in

@@ -4,7 +4,7 @@ use Rattle.std.proofs.lemmas.Bool.{eq-eqb}
 use Rattle.duality.specs.Lists.{places}
 use Rattle.job.specs.Numbers.{problem_of}
 use Rattle.terms.proofs.Reading.{l_item, u_item}
-use Rattle.job.proofs.Holding.{open_at, held_is, held_more, held_all, held_in_bounds}
+use Rattle.job.proofs.Holding.{open_at, held_is, held_more, held_all, held_law}
 use Rattle.job.proofs.numbers.Job.clamp.Goals as goal
 
 pub clamp-requires : goal.clamp-requires
@@ -29,5 +29,5 @@ returns c =
     record {
       value = sym (eq-eqb _ _ (c.if-z-ropes.false ∙ c.ropes.ensures));
       after = held_all c.args.self.now c.args.z.now c.loop-j.z c.loop-j.j (c.if-z-ropes.false ∙ c.ropes.ensures) c.loop-j.auto.z all c.loop-j.invariant;
-      law = λ _. held_in_bounds c.args.self.now c.args.z.now c.loop-j.z c.loop-j.j (c.if-z-ropes.false ∙ c.ropes.ensures) c.loop-j.auto.z all c.loop-j.invariant;
+      law = λ _. held_law c.args.self.now c.args.z.now c.loop-j.z c.loop-j.j (c.if-z-ropes.false ∙ c.ropes.ensures) c.loop-j.auto.z all c.loop-j.invariant;
     }
