@@ -16,13 +16,21 @@ not_later ls k i j f g a b l =
     g.first i f.below l
     (le_of_not-lt x y (le_right smallest x (le_of_lt smallest x a.0)) (le_right smallest y (le_of_lt smallest y b.0)) (no_more (lt x y) (f.largest j g.below g.within)))
 
-one_pivot : (ls : List (List Float)) (k : ℕ) (p q : Pivot) → Takes ls k p → Takes ls k q → p.place ≡ q.place
-one_pivot ls k p q f g =
+one_place : (ls : List (List Float)) (k : ℕ) (p q : Pivot) → Takes ls k p → Takes ls k q → p.place ≡ q.place
+one_place ls k p q f g =
     let a = subst Takable f.size f.takable in
     let b = subst Takable g.size g.takable in
     ⊎_elim (λ l. absurd (not_later ls k p.place q.place f.place g.place a b l))
     (λ l. ⊎_elim (λ m. absurd (not_later ls k q.place p.place g.place f.place b a m)) (λ m. omega arith) (cases_lt q.place p.place))
     (cases_lt p.place q.place)
+
+abbrev made : ℕ → Float → Pivot
+made i x = record { place = i; size = x }
+
+one_pivot : (ls : List (List Float)) (k : ℕ) (p q : Pivot) → Takes ls k p → Takes ls k q → p ≡ q
+one_pivot ls k p q f g =
+    let e = one_place ls k p q f g in
+    ap (λ (i : ℕ). made i p.size) e ∙ ap (λ (x : Float). made q.place x) (f.size ∙ ap (size_at ls k) e ∙ sym g.size)
 
 one_line : (w k : ℕ) (ps xs ys zs : List Float) → ClearedBy w k ps xs ys → ClearedBy w k ps xs zs → ys ≡ zs
 one_line w k ps xs ys zs f g =
@@ -75,16 +83,16 @@ stops_first : (n c : ℕ) (ms : List (List Float)) → Stops n c ms → Stops n 
 stops_first n c ms h = let e : c ≡ 0 + c = omega arith in let P : ℕ → Type 0 = λ i. Stops n i ms in subst P e h
 
 one_run : (w n k : ℕ) (ps qs : List Pivot) (ls ms ns : List (List Float)) → length ls ≡ n → Lead w k ps ls ms → Lead w k qs ls ns → Stops n (k + length ps) ms → Stops n (k + length qs) ns →
-    (ms ≡ ns) × (length ps ≡ length qs)
+    (ms ≡ ns) × (ps ≡ qs)
 one_run w n k [] [] ls ms ns l f g a b = (sym f ∙ g, refl)
 one_run w n k [] (q ∷ qs) ls ms ns l f g a b = absurd (goes_on n k ls q l g.0 (stops_here n k ls ms f a))
 one_run w n k (p ∷ ps) [] ls ms ns l f g a b = absurd (goes_on n k ls p l f.0 (stops_here n k ls ns g b))
 one_run w n k (p ∷ ps) (q ∷ qs) ls ms ns l f g a b =
     let P : ℕ → Type 0 = λ i. Clears w k i ls g.1.0 in
-    let c : f.1.0 ≡ g.1.0 = one_clearing w k p.place ls f.1.0 g.1.0 f.1.1.0 (subst P (sym (one_pivot ls k p q f.0 g.0)) g.1.1.0) in
+    let c : f.1.0 ≡ g.1.0 = one_clearing w k p.place ls f.1.0 g.1.0 f.1.1.0 (subst P (sym (one_place ls k p q f.0 g.0)) g.1.1.0) in
     let L : List (List Float) → Type 0 = λ vs. Lead w (suc k) qs vs ns in
     let r = one_run w n (suc k) ps qs f.1.0 ms ns (f.1.1.0.long ∙ l) f.1.1.1 (subst L (sym c) g.1.1.1) (stops_there n k (length ps) ms a) (stops_there n k (length qs) ns b) in
-    (r.0, ap suc r.1)
+    (r.0, ap (λ (q : Pivot). q ∷ ps) (one_pivot ls k p q f.0 g.0) ∙ ap (λ rs. q ∷ rs) r.1)
 
 none_after : (n k : ℕ) (ls : List (List Float)) (xs : List Float) → Unknowns n k ls xs → k + length xs ≡ n
 none_after n k ls [] h = omega arith
@@ -130,11 +138,15 @@ ends_stop n c ms None (inl h) = inr h.1
 ends_stop n c ms None (inr h) = inl h.0
 ends_stop n c ms (Some xs) h = inl h.0
 
-pub one_elimination : (s t u : Float) (ls ms ns : List (List Float)) (us vs : Option (List Float)) → Elimination s ls ms t us → Elimination s ls ns u vs → (ns ≡ ms) × (vs ≡ us)
-one_elimination s t u ls ms ns us vs f g =
+-- the columns of a system are done one way, and leave one answer
+pub one_solution : (ls ms ns : List (List Float)) (ps qs : List Pivot) (us vs : Option (List Float)) → Lead (length ls + 1) 0 ps ls ms → Ends (length ls) (length ps) ms us →
+    Lead (length ls + 1) 0 qs ls ns → Ends (length ls) (length qs) ns vs → (ns ≡ ms) × (vs ≡ us) × (qs ≡ ps)
+one_solution ls ms ns ps qs us vs f a g b =
     let n = length ls in
-    let r = one_run (n + 1) n 0 f.pivots g.pivots ls ms ns refl f.columns g.columns (stops_first n (length f.pivots) ms (ends_stop n (length f.pivots) ms us f.end))
-    (stops_first n (length g.pivots) ns (ends_stop n (length g.pivots) ns vs g.end)) in
-    let P : List (List Float) → Type 0 = λ x. Ends n (length g.pivots) x vs in
+    let r = one_run (n + 1) n 0 ps qs ls ms ns refl f g (stops_first n (length ps) ms (ends_stop n (length ps) ms us a)) (stops_first n (length qs) ns (ends_stop n (length qs) ns vs b)) in
+    let P : List (List Float) → Type 0 = λ x. Ends n (length qs) x vs in
     let Q : ℕ → Type 0 = λ c. Ends n c ms vs in
-    (sym r.0, one_end n (length f.pivots) ms vs us (subst Q (sym r.1) (subst P (sym r.0) g.end)) f.end)
+    (sym r.0, one_end n (length ps) ms vs us (subst Q (ap length (sym r.1)) (subst P (sym r.0) b)) a, sym r.1)
+
+pub one_elimination : (s t u : Float) (ls ms ns : List (List Float)) (us vs : Option (List Float)) → Elimination s ls ms t us → Elimination s ls ns u vs → (ns ≡ ms) × (vs ≡ us)
+one_elimination s t u ls ms ns us vs f g = let r = one_solution ls ms ns f.pivots g.pivots us vs f.columns f.end g.columns g.end in (r.0, r.1)
