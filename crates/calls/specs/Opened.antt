@@ -1,10 +1,9 @@
 -- A plan that was just opened.
-use Rattle.std.specs.Prelude.{◌≡◌, ◌⊎◌, length, replicate, pos, Some, None, Ok, Err, Result}
+use Rattle.std.specs.Prelude.{length, replicate, pos, None, Ok, Err, Result}
 use Rattle.duality.specs.Convex.{Symmetric, Convex}
 use Rattle.table.specs.Grid.{Grid}
 use Rattle.opening.specs.declared.refusal.Refusal.{Refusal}
-use Rattle.opening.specs.declared.refusal.Refusal.TheVariants.{Memory}
-use Rattle.opening.specs.Opening.{Numbers, open_fault}
+use Rattle.opening.specs.Opening.{Numbers}
 use Rattle.opening.specs.Fits.{Fits}
 use Rattle.terms.specs.Numbers.{numbers}
 use Rattle.calls.specs.States.{State, problem}
@@ -27,7 +26,7 @@ pub record Sound (g a : Grid) (x : Numbers) (s : State) : Type 0 where
   pub symmetric : Symmetric (problem s).ropes (problem s).G
   pub convex : Convex (problem s).ropes (problem s).G
 
--- what opening answers: the new state where there is no fault, else the first fault; or that there is no memory
-abbrev pub Opens : {P : Type 0} → (P → State) → Grid → Grid → Numbers → Result P Refusal → Type 0
-Opens view g a x (Ok p) = (open_fault g a x ≡ None) × (view p ≡ opened g a x) × Sound g a x (view p)
-Opens view g a x (Err e) = (open_fault g a x ≡ Some e) ⊎ ((open_fault g a x ≡ None) × (e ≡ Memory))
+-- what opening answers, with the state that a plan stands for in its place
+abbrev pub viewed : {P : Type 0} → (P → State) → Result P Refusal → Result State Refusal
+viewed view (Ok p) = Ok (view p)
+viewed view (Err e) = Err e

@@ -1,10 +1,10 @@
 -- Solve: the exchange and then the walk, on the problem in force; what they find is offered like anyone's.
-use Rattle.std.specs.Prelude.{◌≡◌, ℕ, ◌≤◌, cond, ◌⊎◌, List, [], ◌∷◌, ◌++◌, take, ℤ, Some, None, Ok, Err, Option, Result, nat_le}
+use Rattle.std.specs.Prelude.{ℕ, ◌≤◌, cond, List, [], ◌∷◌, ◌++◌, take, ℤ, Some, None, Ok, Err, Option, Result, nat_le}
 use Rattle.std.specs.Option.{unwrap_or}
 use Rattle.duality.specs.Lists.{places}
 use Rattle.duality.specs.Problem.{Problem}
 use Rattle.opening.specs.declared.refusal.Refusal.{Refusal}
-use Rattle.opening.specs.declared.refusal.Refusal.TheVariants.{OfferLimit, Memory}
+use Rattle.opening.specs.declared.refusal.Refusal.TheVariants.{OfferLimit}
 use Rattle.terms.specs.Numbers.{Numbers}
 use Rattle.job.specs.Numbers as job
 use Rattle.job.specs.Rows.{judged}
@@ -78,11 +78,6 @@ report s steps moves =
       walk = (walk_of s steps moves).end;
       smallest = reported (exchange_of s steps).smallest;
     }
-
--- how the call answers, with the state s before and t after it: want of memory leaves everything as it stood
-abbrev pub Solves : State → ℕ → ℕ → Result Report Refusal → State → Type 0
-Solves s steps moves (Ok r) t = (solve_refusal steps moves ≡ None) × (r ≡ report s steps moves) × (t ≡ took_all s (solve_offers s steps moves))
-Solves s steps moves (Err e) t = (t ≡ s) × ((solve_refusal steps moves ≡ Some e) ⊎ ((solve_refusal steps moves ≡ None) × (e ≡ Memory)))
 
 -- Law: no count passes its budget, and the walk that is reported was made: each of its moves lowers,
 -- settled means that none does any more, and spent that one does and the budget is used.

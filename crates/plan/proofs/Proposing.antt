@@ -1,5 +1,5 @@
 -- The exchange and the walk, one after the other, make a solve.
-use Rattle.std.proofs.Common.{◌≡◌, ℕ, true, eqb, List, length, ℤ, vec_items, vec_len, unwrap_or, sym, ap, ◌∙◌, subst, arith}
+use Rattle.std.proofs.Common.{◌≡◌, ℕ, true, eqb, List, length, ℤ, unwrap_or, sym, ap, ◌∙◌, subst, arith}
 use lib.Signed.{≤ℤ_refl}
 use Rattle.std.proofs.lemmas.Bool.{and_from, eq-eqb}
 use Rattle.duality.specs.Lists.{places}
@@ -7,7 +7,7 @@ use Rattle.duality.specs.Problem.{Problem}
 use Rattle.duality.specs.Tests.{all, between}
 use Rattle.duality.proofs.Tests.{all_from, between_from, ordered_at}
 use Rattle.table.specs.Grid.{Grid}
-use Rattle.terms.specs.Numbers.{Numbers}
+use Rattle.terms.specs.Numbers.{Numbers, ropes_of}
 use Rattle.terms.specs.declared.numbers.Terms.{Terms}
 use Rattle.job.specs.Bounds.{is_in_bounds}
 use Rattle.job.specs.Numbers.{problem}
@@ -28,11 +28,11 @@ use Rattle.plan.specs.Solves.{Reports}
 use Rattle.plan.proofs.Solving.{took_append}
 
 -- the lower bounds lie inside the bounds
-pub lower_inside : (t : Terms) (P : Problem) → P.ropes ≡ vec_len t.c → P.l ≡ places (vec_items t.l) → P.u ≡ places (vec_items t.u) → is_in_bounds P (vec_items t.l) ≡ true
+pub lower_inside : (t : Terms) (P : Problem) → P.ropes ≡ ropes_of t → P.l ≡ places t.l.items → P.u ≡ places t.u.items → is_in_bounds P t.l.items ≡ true
 lower_inside t P en el eu =
-    let long : length (vec_items t.l) ≡ P.ropes = omega (arith, en, t.l.ok.0, t.lefts.0) in
-    let l = vec_items t.l in
-    let u = vec_items t.u in
+    let long : length t.l.items ≡ P.ropes = omega (arith, en, t.lefts.0) in
+    let l = t.l.items in
+    let u = t.u.items in
     and_from (eqb (length l) P.ropes) (all (λ k. between (P.l k) (P.u k) (places l k)) P.ropes) (eq-eqb _ _ long)
     (all_from (λ k. between (P.l k) (P.u k) (places l k)) P.ropes
     (λ k b. rw (el, eu) (between_from (places l k) (places u k) (places l k) (≤ℤ_refl (places l k)) (ordered_at l u k t.wide (omega arith)))))

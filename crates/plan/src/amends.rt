@@ -1,5 +1,6 @@
 //! Amendments: new numbers for a row or a rope, and what they leave of what is held.
-ghost use Rattle.std.specs.Prelude.{◌≡◌, true, vec_len};
+ghost use Rattle.std.specs.Prelude.{◌≡◌, true};
+ghost use Rattle.terms.specs.Numbers.{ropes_of, rows_of};
 ghost use Rattle.duality.specs.Lists.{places};
 ghost use Rattle.table.specs.Grid.{Grid};
 ghost use Rattle.evaluate.specs.Stated.{problem_of};
@@ -24,11 +25,11 @@ fn drop_broken<T: Table>(
     terms: &Terms,
     point: &mut Option<ArrayVec<i64, MOST_ROPES>>,
 ) -> bool
-    requires { held_within (vec_len terms.now.c) 32768 point.old ≡ true }
+    requires { held_within (ropes_of terms.now) 32768 point.old ≡ true }
     ensures value { (g : Grid) → held point.new
         ≡ standing (λ x. feasible (problem_of g (T.Table.meant a.now) terms.now) (places x)) (held point.old) }
     ensures dropped { result ≡ was_dropped (held point.old) (held point.new) }
-    ensures pulls { held_within (vec_len terms.now.c) 32768 point.new ≡ true }
+    ensures pulls { held_within (ropes_of terms.now) 32768 point.new ≡ true }
 {
     point
         .take_if(|z| is_feasible(a, terms, z) == Some(false))
@@ -37,11 +38,11 @@ fn drop_broken<T: Table>(
 
 /// Drops a held proof that no longer refutes, and says whether it did.
 fn drop_stale<T: Table>(a: &T, terms: &Terms, proof: &mut Option<ArrayVec<i64, MOST_ROWS>>) -> bool
-    requires { held_within (vec_len terms.now.lo) 16777216 proof.old ≡ true }
+    requires { held_within (rows_of terms.now) 16777216 proof.old ≡ true }
     ensures value { (g : Grid) → held proof.new
         ≡ standing (λ x. refuting (problem_of g (T.Table.meant a.now) terms.now) (places x)) (held proof.old) }
     ensures dropped { result ≡ was_dropped (held proof.old) (held proof.new) }
-    ensures refuters { held_within (vec_len terms.now.lo) 16777216 proof.new ≡ true }
+    ensures refuters { held_within (rows_of terms.now) 16777216 proof.new ≡ true }
 {
     proof
         .take_if(|y| refutes(a, terms, y) == Some(false))

@@ -1,5 +1,6 @@
 //! What is computed of points and multipliers that are known to fit: there is always an answer.
-ghost use Rattle.std.specs.Prelude.{◌≡◌, ◌^◌, ◌≤◌, true, length, pos, ◌-ℤ◌, ◌*ℤ◌, vec_len, unsigned_abs};
+ghost use Rattle.std.specs.Prelude.{◌≡◌, ◌^◌, ◌≤◌, true, length, pos, ◌-ℤ◌, ◌*ℤ◌, unsigned_abs};
+ghost use Rattle.terms.specs.Numbers.{ropes_of, rows_of};
 ghost use Rattle.std.specs.Option.{option_map};
 ghost use Rattle.duality.specs.Lists.{places};
 ghost use Rattle.duality.specs.Problem.{cost as cost_of};
@@ -11,26 +12,27 @@ use crate::state::Plan;
 use arrayvec::ArrayVec;
 use evaluate::{Pair, cost, floor};
 use table::Table;
+use terms::placed;
 
 /// A copy of a list that is known to fit.
 pub(crate) fn copied<const N: usize>(xs: &[i64]) -> ArrayVec<i64, N>
     requires { length xs.now ≤ N }
     ensures { result.items ≡ xs.now }
 {
-    ArrayVec::try_from(xs).unwrap()
+    placed(xs)
 }
 
 impl<G: Table, A: Table> Plan<G, A> {
     pub(crate) fn cost_of(&self, z: &[i64]) -> i64
-        requires { many_within (vec_len self.now.terms.c) 32768 z.now ≡ true }
+        requires { many_within (ropes_of self.now.terms) 32768 z.now ≡ true }
         ensures { result ≡ cost_of (problem (view G.Table.meant A.Table.meant self.now)) (places z.now) }
     {
         cost(&self.g, &self.terms, z).unwrap()
     }
 
     pub(crate) fn floor_of(&self, pair: Pair) -> i128
-        requires point { many_within (vec_len self.now.terms.c) 32768 pair.point.now ≡ true }
-        requires multipliers { many_within (vec_len self.now.terms.lo) 16777216 pair.multipliers.now ≡ true }
+        requires point { many_within (ropes_of self.now.terms) 32768 pair.point.now ≡ true }
+        requires multipliers { many_within (rows_of self.now.terms) 16777216 pair.multipliers.now ≡ true }
         ensures value { result ≡ floor_of (problem (view G.Table.meant A.Table.meant self.now)) (pair_of pair.entry) }
         ensures small { unsigned_abs result ≤ 2 ^ 122 }
     {

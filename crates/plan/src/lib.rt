@@ -10,7 +10,6 @@ mod founds;
 mod judges;
 mod offers;
 mod opens;
-mod proposers;
 mod shows;
 mod sizes;
 mod solves;

@@ -21,7 +21,7 @@ impl<G: Table, A: Table> Plan<G, A> {
         ensures wrote { out.new ≡ shown_in (view G.Table.meant A.Table.meant self.now) out.old }
         ensures law { ShowLaw (view G.Table.meant A.Table.meant self.now) result out.new }
     {
-        check_length(self.terms.c.len(), out.len())?;
+        check_length(self.terms.ropes(), out.len())?;
         let floor = self.held_floor();
         let found = match (&self.proof, &self.point) {
             (Some(_), _) => Found::NoneExists,

@@ -11,6 +11,6 @@ impl<G: Table, A: Table> Plan<G, A> {
         ensures value { result ≡ (view G.Table.meant A.Table.meant self.now).numbers.ropes }
         ensures few { result ≤ 16 }
     {
-        self.terms.c.len()
+        self.terms.ropes()
     }
 }

@@ -1,5 +1,6 @@
 //! The structs stand alone: definitions that name them can be cited from every other file.
-ghost use Rattle.std.specs.Prelude.{◌≡◌, true, vec_len};
+ghost use Rattle.std.specs.Prelude.{◌≡◌, true};
+ghost use Rattle.terms.specs.Numbers.{ropes_of, rows_of};
 ghost use Rattle.duality.specs.Tests.{many_within};
 ghost use Rattle.plan.specs.Inside.{held_inside, held_within};
 
@@ -30,8 +31,8 @@ pub struct Plan<G: Table, A: Table> {
     /// The pair whose floor is shown.
     pub(crate) pair: HeldPair,
     ghost inside: { held_inside point terms.l.items terms.u.items ≡ true },
-    ghost pulls: { held_within (vec_len terms.c) 32768 point ≡ true },
-    ghost refuters: { held_within (vec_len terms.lo) 16777216 proof ≡ true },
-    ghost bases: { many_within (vec_len terms.c) 32768 pair.point.items ≡ true },
-    ghost weights: { many_within (vec_len terms.lo) 16777216 pair.multipliers.items ≡ true },
+    ghost pulls: { held_within (ropes_of terms) 32768 point ≡ true },
+    ghost refuters: { held_within (rows_of terms) 16777216 proof ≡ true },
+    ghost bases: { many_within (ropes_of terms) 32768 pair.point.items ≡ true },
+    ghost weights: { many_within (rows_of terms) 16777216 pair.multipliers.items ≡ true },
 }

@@ -1,10 +1,11 @@
 //! Amendments of the terms.
-ghost use Rattle.std.specs.Prelude.{◌≡◌, true, None, nat_lt};
+ghost use Rattle.std.specs.Prelude.{◌≡◌, ◌<◌, true, length, None, nat_lt, slice_set};
 ghost use Rattle.duality.specs.Tests.{within as is_within};
 ghost use Rattle.terms.specs.Numbers.{numbers_of};
 ghost use Rattle.calls.specs.Refusing.{ordered as ordered_of, unless_allowed, amend_refusal};
 ghost use Rattle.calls.specs.Steps.{amendment as amendment_of, if_allowed, unless};
 
+use arrayvec::ArrayVec;
 use calls::Amendment;
 use opening::Refusal;
 use terms::{PRICE_LIMIT, PULL_LIMIT, ROW_LIMIT, Terms, within};
@@ -32,15 +33,23 @@ fn check_amendment(terms: &Terms, amendment: Amendment) -> Result<(), Refusal>
 {
     match amendment {
         Amendment::Row { index, lo, hi } => {
-            check_allowed(index, terms.lo.len(), ordered(ROW_LIMIT, lo, hi))
+            check_allowed(index, terms.rows(), ordered(ROW_LIMIT, lo, hi))
         }
         Amendment::Rope { index, l, u } => {
-            check_allowed(index, terms.c.len(), ordered(PULL_LIMIT, l, u))
+            check_allowed(index, terms.ropes(), ordered(PULL_LIMIT, l, u))
         }
         Amendment::Cost { index, c } => {
-            check_allowed(index, terms.c.len(), within(PRICE_LIMIT, c))
+            check_allowed(index, terms.ropes(), within(PRICE_LIMIT, c))
         }
     }
+}
+
+/// Sets the number at one place of a list.
+fn set_place<const N: usize>(list: &mut ArrayVec<i64, N>, index: usize, x: i64)
+    requires { index < length list.old.items }
+    ensures { list.new.items ≡ slice_set list.old.items index x }
+{
+    list[index] = x;
 }
 
 fn set_row(terms: &mut Terms, index: usize, lo: i64, hi: i64)
@@ -48,8 +57,8 @@ fn set_row(terms: &mut Terms, index: usize, lo: i64, hi: i64)
     requires allowed { ordered_of 536870912 lo hi ≡ true }
     ensures { numbers_of terms.new ≡ amendment_of (numbers_of terms.old) (Amendment.Row index lo hi) }
 {
-    terms.lo[index] = lo;
-    terms.hi[index] = hi;
+    set_place(&mut terms.lo, index, lo);
+    set_place(&mut terms.hi, index, hi);
 }
 
 fn set_rope(terms: &mut Terms, index: usize, l: i64, u: i64)
@@ -57,8 +66,8 @@ fn set_rope(terms: &mut Terms, index: usize, l: i64, u: i64)
     requires allowed { ordered_of 32768 l u ≡ true }
     ensures { numbers_of terms.new ≡ amendment_of (numbers_of terms.old) (Amendment.Rope index l u) }
 {
-    terms.l[index] = l;
-    terms.u[index] = u;
+    set_place(&mut terms.l, index, l);
+    set_place(&mut terms.u, index, u);
 }
 
 fn set_cost(terms: &mut Terms, index: usize, c: i64)
@@ -66,7 +75,7 @@ fn set_cost(terms: &mut Terms, index: usize, c: i64)
     requires allowed { is_within 268435456 c ≡ true }
     ensures { numbers_of terms.new ≡ amendment_of (numbers_of terms.old) (Amendment.Cost index c) }
 {
-    terms.c[index] = c;
+    set_place(&mut terms.c, index, c);
 }
 
 fn renumber(terms: &mut Terms, amendment: Amendment)

@@ -1,5 +1,6 @@
 //! Why an offer is refused.
-ghost use Rattle.std.specs.Prelude.{◌≡◌, ◌≤◌, true, length, vec_len};
+ghost use Rattle.std.specs.Prelude.{◌≡◌, ◌≤◌, true, length};
+ghost use Rattle.terms.specs.Numbers.{ropes_of};
 ghost use Rattle.duality.specs.Lists.{places};
 ghost use Rattle.duality.specs.Tests.{many_within};
 ghost use Rattle.table.specs.Grid.{Grid};
@@ -36,7 +37,7 @@ fn check_limit(limit: u64, first: usize, xs: &[i64]) -> Result<(), Refusal>
 }
 
 fn refuse_bound(terms: &Terms, z: &[i64]) -> Result<(), Refusal>
-    requires { many_within (vec_len terms.now.c) 32768 z.now ≡ true }
+    requires { many_within (ropes_of terms.now) 32768 z.now ≡ true }
     ensures { (g a : Grid) → result ≡ unless (bound_refusal (problem_of g a terms.now) (places z.now)) tt }
 {
     if let Err(Unmet::At(rope)) = check_bounds(terms, z) {
@@ -46,7 +47,7 @@ fn refuse_bound(terms: &Terms, z: &[i64]) -> Result<(), Refusal>
 }
 
 fn refuse_row<T: Table>(a: &T, terms: &Terms, z: &[i64]) -> Result<(), Refusal>
-    requires { many_within (vec_len terms.now.c) 32768 z.now ≡ true }
+    requires { many_within (ropes_of terms.now) 32768 z.now ≡ true }
     ensures { (g : Grid) → result ≡ unless (row_refusal (problem_of g (T.Table.meant a.now) terms.now) (places z.now)) tt }
 {
     if let Err(Unmet::At(row)) = check_rows(a, terms, z) {
@@ -59,7 +60,7 @@ fn refuse_row<T: Table>(a: &T, terms: &Terms, z: &[i64]) -> Result<(), Refusal>
 pub fn check_point<T: Table>(a: &T, terms: &Terms, z: &[i64]) -> Result<(), Refusal>
     ensures { (g : Grid) → result ≡ unless (point_refusal (problem_of g (T.Table.meant a.now) terms.now) z.now) tt }
 {
-    check_length(terms.c.len(), z.len())?;
+    check_length(terms.ropes(), z.len())?;
     check_limit(PULL_LIMIT, 0, z)?;
     refuse_bound(terms, z)?;
     refuse_row(a, terms, z)
@@ -70,9 +71,9 @@ pub fn check_pair(terms: &Terms, pair: Pair) -> Result<(), Refusal>
     ensures { (g a : Grid) → result ≡ unless (pair_refusal (problem_of g a terms.now)
         (record { point = pair.entry.point.now; multipliers = pair.entry.multipliers.now })) tt }
 {
-    let ropes = terms.c.len();
+    let ropes = terms.ropes();
     check_length(ropes, pair.point.len())?;
-    check_length(terms.lo.len(), pair.multipliers.len())?;
+    check_length(terms.rows(), pair.multipliers.len())?;
     check_limit(PULL_LIMIT, 0, pair.point)?;
     check_limit(MULTIPLIER_LIMIT, ropes, pair.multipliers)
 }
@@ -81,7 +82,7 @@ pub fn check_pair(terms: &Terms, pair: Pair) -> Result<(), Refusal>
 pub fn check_proof<T: Table>(a: &T, terms: &Terms, y: &[i64]) -> Result<(), Refusal>
     ensures { (g : Grid) → result ≡ unless (proof_refusal (problem_of g (T.Table.meant a.now) terms.now) y.now) tt }
 {
-    check_length(terms.lo.len(), y.len())?;
+    check_length(terms.rows(), y.len())?;
     check_limit(MULTIPLIER_LIMIT, 0, y)?;
     if !refutes(a, terms, y).unwrap() {
         return Err(Refusal::NoProof);

@@ -1,8 +1,9 @@
-use Rattle.std.proofs.Common.{vec_len, rules}
+use Rattle.std.proofs.Common.{rules}
+use Rattle.terms.specs.Numbers.{ropes_of}
 use Rattle.job.proofs.Reading.{wider}
 use Rattle.reasons.proofs.refuses.refuse_row.Goals as goal
 
 pub returns : goal.returns
 returns g c =
-    let h = wider (vec_len c.args.terms.now.c) c.args.z.now c.requires in
+    let h = wider (ropes_of c.args.terms.now) c.args.z.now c.requires in
     search rules

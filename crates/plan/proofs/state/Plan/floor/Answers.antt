@@ -1,4 +1,5 @@
-use Rattle.std.proofs.Common.{vec_len, refl, ap, ◌∙◌}
+use Rattle.std.proofs.Common.{refl, ap, ◌∙◌}
+use Rattle.terms.specs.Numbers.{ropes_of, rows_of}
 use Rattle.duality.specs.Tests.{many_within}
 use Rattle.opening.proofs.Firsts.{none_of}
 use Rattle.calls.specs.States.{State, Pair, problem}
@@ -12,13 +13,13 @@ pub invariant_of-self-clause-bases : goal.invariant_of-self-clause-bases
 invariant_of-self-clause-bases g c =
     let s : State = view g.G.Table.meant g.A.Table.meant c.args.self.now in
     let q : Pair = pair_of c.args.pair in
-    ap (many_within (vec_len c.args.self.now.terms.c) 32768) c.copied.ensures ∙ (pair_many (problem s) q (none_of _ _ _ c.in_ok-verdict.ensures)).0
+    ap (many_within (ropes_of c.args.self.now.terms) 32768) c.copied.ensures ∙ (pair_many (problem s) q (none_of _ _ _ c.in_ok-verdict.ensures)).0
 
 pub invariant_of-self-clause-weights : goal.invariant_of-self-clause-weights
 invariant_of-self-clause-weights g c =
     let s : State = view g.G.Table.meant g.A.Table.meant c.args.self.now in
     let q : Pair = pair_of c.args.pair in
-    ap (many_within (vec_len c.args.self.now.terms.lo) 16777216) c.copied-then-eq.ensures ∙ (pair_many (problem s) q (none_of _ _ _ c.in_ok-verdict.ensures)).1
+    ap (many_within (rows_of c.args.self.now.terms) 16777216) c.copied-then-eq.ensures ∙ (pair_many (problem s) q (none_of _ _ _ c.in_ok-verdict.ensures)).1
 
 pub returns-in_err-verdict-clause-lawful : goal.returns-in_err-verdict-clause-lawful
 returns-in_err-verdict-clause-lawful g c =

@@ -1,4 +1,5 @@
-use Rattle.std.proofs.Common.{List, ℤ, length, vec_len, ap, ◌∙◌}
+use Rattle.std.proofs.Common.{List, ℤ, length, ap, ◌∙◌}
+use Rattle.terms.specs.Numbers.{ropes_of}
 use Rattle.duality.specs.Tests.{many_within}
 use Rattle.opening.proofs.Firsts.{none_of}
 use Rattle.calls.specs.States.{State, problem}
@@ -15,4 +16,4 @@ invariant_of-self-clause-inside g c =
 pub invariant_of-self-clause-pulls : goal.invariant_of-self-clause-pulls
 invariant_of-self-clause-pulls g c =
     let s : State = view g.G.Table.meant g.A.Table.meant c.args.self.now in
-    ap (many_within (vec_len c.args.self.now.terms.c) 32768) c.copied.ensures ∙ point_many (problem s) c.args.z.now (none_of _ _ _ c.in-Ok-Some.ensures)
+    ap (many_within (ropes_of c.args.self.now.terms) 32768) c.copied.ensures ∙ point_many (problem s) c.args.z.now (none_of _ _ _ c.in-Ok-Some.ensures)

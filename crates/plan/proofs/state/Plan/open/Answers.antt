@@ -1,7 +1,7 @@
 use Rattle.opening.proofs.Firsts.{none_of}
-use Rattle.std.proofs.Common.{◌≡◌, length, vec_len, ap, rules}
+use Rattle.std.proofs.Common.{◌≡◌, length, ap, rules}
 use Rattle.opening.specs.Opening.{numbers_of}
-use Rattle.terms.specs.Numbers.{Numbers}
+use Rattle.terms.specs.Numbers.{Numbers, ropes_of, rows_of}
 use Rattle.plan.specs.View.{view}
 use Rattle.plan.proofs.Opened.{fitting_is, opens_refused, zeros_fit, lower_fit}
 use Rattle.plan.proofs.state.Plan.open.Goals as goal
@@ -17,11 +17,11 @@ terms_of-requires g c =
 pub invariant_of-result-clause-bases : goal.invariant_of-result-clause-bases
 invariant_of-result-clause-bases g c =
     let x = numbers_of c.args.lists.now in
-    let n : vec_len c.in_ok-terms.terms.c ≡ length x.c = ap (λ (t : Numbers). t.ropes) c.in_ok-terms.ensures in
+    let n : ropes_of c.in_ok-terms.terms ≡ length x.c = ap (λ (t : Numbers). t.ropes) c.in_ok-terms.ensures in
     lower_fit (g.G.Table.meant c.args.g) (g.A.Table.meant c.args.a) x (none_of _ _ _ c.in_ok-check_opening.ensures.value) _ _ n c.unweighted.ensures.point
 
 pub invariant_of-result-clause-weights : goal.invariant_of-result-clause-weights
 invariant_of-result-clause-weights g c =
     let x = numbers_of c.args.lists.now in
-    let m : vec_len c.in_ok-terms.terms.lo ≡ length x.lo = ap (λ (t : Numbers). t.rows) c.in_ok-terms.ensures in
+    let m : rows_of c.in_ok-terms.terms ≡ length x.lo = ap (λ (t : Numbers). t.rows) c.in_ok-terms.ensures in
     zeros_fit _ _ 16777216 _ m c.unweighted.ensures.multipliers

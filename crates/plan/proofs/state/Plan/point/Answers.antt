@@ -1,4 +1,5 @@
-use Rattle.std.proofs.Common.{List, length, ℤ, vec_len, refl, ap, ◌∙◌}
+use Rattle.std.proofs.Common.{List, length, ℤ, refl, ap, ◌∙◌}
+use Rattle.terms.specs.Numbers.{ropes_of}
 use Rattle.duality.specs.Tests.{many_within}
 use Rattle.opening.proofs.Firsts.{none_of}
 use Rattle.calls.specs.States.{State, problem}
@@ -17,7 +18,7 @@ invariant_of-self-clause-inside g c =
 pub invariant_of-self-clause-pulls : goal.invariant_of-self-clause-pulls
 invariant_of-self-clause-pulls g c =
     let s : State = view g.G.Table.meant g.A.Table.meant c.args.self.now in
-    ap (many_within (vec_len c.args.self.now.terms.c) 32768) c.copied.ensures ∙ point_many (problem s) c.args.z.now (none_of _ _ _ c.in_ok-verdict.ensures)
+    ap (many_within (ropes_of c.args.self.now.terms) 32768) c.copied.ensures ∙ point_many (problem s) c.args.z.now (none_of _ _ _ c.in_ok-verdict.ensures)
 
 pub returns-in_err-verdict-clause-lawful : goal.returns-in_err-verdict-clause-lawful
 returns-in_err-verdict-clause-lawful g c =

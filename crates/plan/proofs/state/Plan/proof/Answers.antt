@@ -1,4 +1,5 @@
-use Rattle.std.proofs.Common.{vec_len, refl, ap, ◌∙◌}
+use Rattle.std.proofs.Common.{refl, ap, ◌∙◌}
+use Rattle.terms.specs.Numbers.{rows_of}
 use Rattle.duality.specs.Tests.{many_within}
 use Rattle.opening.proofs.Firsts.{none_of}
 use Rattle.calls.specs.States.{State, problem}
@@ -11,7 +12,7 @@ use Rattle.plan.proofs.state.Plan.proof.Goals as goal
 pub invariant_of-self-clause-refuters : goal.invariant_of-self-clause-refuters
 invariant_of-self-clause-refuters g c =
     let s : State = view g.G.Table.meant g.A.Table.meant c.args.self.now in
-    ap (many_within (vec_len c.args.self.now.terms.lo) 16777216) c.copied.ensures ∙ proof_many (problem s) c.args.y.now (none_of _ _ _ c.in_ok-verdict.ensures)
+    ap (many_within (rows_of c.args.self.now.terms) 16777216) c.copied.ensures ∙ proof_many (problem s) c.args.y.now (none_of _ _ _ c.in_ok-verdict.ensures)
 
 pub returns-in_err-verdict-clause-lawful : goal.returns-in_err-verdict-clause-lawful
 returns-in_err-verdict-clause-lawful g c =
