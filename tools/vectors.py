@@ -21,6 +21,7 @@ import struct
 import sys
 
 sys.path.insert(0, os.path.dirname(os.path.abspath(__file__)))
+import sheets
 from solver import MOST, Job, dot, exchange, nearest, solve_in_place, walk
 
 WALK, SYSTEM, EXCHANGE = 0, 1, 2
@@ -196,6 +197,35 @@ def last_moves(rng):
         if end == "settled" and moves > 1:
             made += 1
             yield from (words(WALK, job, budget, start) for budget in (moves - 1, moves, moves + 1))
+
+
+def two_ways(rng):
+    """Walks of a cost that falls both ways, so that plus comes before minus, and by larger sizes too."""
+    for _ in range(30):
+        n = rng.randrange(1, 6)
+        g = diagonal([-rng.randrange(1, 9) for _ in range(n)])
+        for i in range(1, n):
+            g[i][i - 1] = rng.randrange(-1, 2)
+        reach = 2 ** rng.randrange(1, 15)
+        l, u = [-reach - rng.randrange(3) for _ in range(n)], [reach + rng.randrange(3) for _ in range(n)]
+        m = rng.randrange(3)
+        a = [[between(rng, 3) for _ in range(n)] for _ in range(m)]
+        job = Job(n, m, g, [between(rng, 9) for _ in range(n)], a, [-(2**29)] * m, [2**29] * m, l, u)
+        yield words(WALK, job, rng.choice([1, 3, 40]), [between(rng, 2) for _ in range(n)])
+
+
+def equal_costs(rng):
+    """Walks with moves that leave the cost as it is."""
+    for _ in range(40):
+        n = rng.randrange(1, 6)
+        start = [rng.choice([-1, 1]) * rng.choice([0, 1, 2, 4, 8, 64]) for _ in range(n)]
+        g = diagonal([rng.choice([0, 1, 1, 2, 5]) for _ in range(n)])
+        m = rng.randrange(3)
+        a = [[rng.choice([0, 0, 1, -1]) for _ in range(n)] for _ in range(m)]
+        limits = [rng.choice([0, 5, 200]) for _ in range(m)]
+        c = [0 if rng.random() < 0.7 else g[j][j] * rng.randrange(-2, 3) for j in range(n)]
+        job = Job(n, m, g, c, a, [-x for x in limits], limits, [-100] * n, [100] * n)
+        yield words(WALK, job, rng.choice([1, 3, 40]), start)
 
 
 def refused_walks(rng):
@@ -562,9 +592,39 @@ def cut_exchanges(rng):
             yield words(EXCHANGE, job, rng.randrange(20, 60))
 
 
+def faint_job(rng, n, m):
+    """Rows that the best point keeps, or breaks by little, and that its rounding breaks: their multipliers lie close to 0."""
+    job = loose_job(rng, n, 0, diagonal([rng.choice([2, 3, 4, 7]) for _ in range(n)]), costs=99, wide=100)
+    best = [-c / job.g[j][j] for j, c in enumerate(job.c)]
+    job.m, job.a = m, [[between(rng, 1000) for _ in range(n)] for _ in range(m)]
+    for row in job.a:
+        near = int(dot(row, best)) + rng.randrange(-99, 300)
+        low, high = rng.choice([(near - 20000, near), (-near, 20000 - near)])
+        if low < 0 and low != near - 20000:
+            row[:] = [-x for x in row]
+        job.lo.append(low)
+        job.hi.append(high)
+    return job
+
+
+def faint_exchanges(rng):
+    """Exchanges with multipliers that are close to 0."""
+    for _ in range(60):
+        yield words(EXCHANGE, faint_job(rng, rng.randrange(1, 6), rng.randrange(1, 8)), 40)
+
+
+def drawn_exchanges(rng):
+    """Exchanges in which it matters who is the first of equals to leave."""
+    for _ in range(30):
+        job, _ = sheets.twins(rng)
+        while not sheets.leaving_draw(job):
+            job, _ = sheets.twins(rng)
+        yield words(EXCHANGE, job, 1000)
+
+
 # What is written, and what is told of it.
 
-FAMILIES = [last_moves, refused_walks, limits, large_systems, pivot_edges, unknown_edges, halves, huge_systems, tiny_systems, not_numbers, earlier_pivots, ended_exchanges, cut_exchanges]
+FAMILIES = [last_moves, refused_walks, limits, large_systems, pivot_edges, unknown_edges, halves, huge_systems, tiny_systems, not_numbers, earlier_pivots, ended_exchanges, cut_exchanges, two_ways, equal_costs, faint_exchanges, drawn_exchanges]
 
 
 def families():
