@@ -76,6 +76,7 @@ lawful P b z y w ins e =
     record {
       descends = all.0;
       within_budget = all.1;
+      from_bounds = ins;
       in_bounds = downhill_inside P w.moves z y ins all.0;
       no_worse = downhill_no_worse P w.moves z y all.0;
       settled = λ s. none_descends P y (subst (λ (v : End). Ends P b y w.moves v) s all.2);

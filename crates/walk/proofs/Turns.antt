@@ -11,6 +11,9 @@ use Rattle.walk.specs.declared.ends.End.TheVariants.{Settled, Spent}
 abbrev pub plus : ℕ → Ended → Ended
 plus n w = record { point = w.point; moves = w.moves + n; end = w.end }
 
+plus_one : (n : ℕ) (x : Ended) → plus (n + 1) x ≡ plus n (one_more x)
+plus_one n x = let count : x.moves + (n + 1) ≡ (x.moves + 1) + n = omega arith in ap (λ (i : ℕ). record { point = x.point; moves = i; end = x.end }) count
+
 module _ (P : Problem) where
   walk_none : (b : ℕ) (z : List ℤ) → first_move P z ≡ None → walk_from P b z ≡ record { point = z; moves = 0; end = Settled }
   unfolding walk_from
@@ -29,11 +32,9 @@ module _ (P : Problem) where
       plus (n + 1) (walk_from P (b - (n + 1)) y) ≡ w
   walk_turn b n z y m w l e ey inv =
       let left : b - n ≡ suc (b - (n + 1)) = omega arith in
-      let x = walk_from P (b - (n + 1)) (after z m) in
-      let s : walk_from P (b - n) z ≡ one_more x = ap (λ (i : ℕ). walk_from P i z) left ∙ walk_step (b - (n + 1)) z m (sym e) in
-      let count : x.moves + (n + 1) ≡ (x.moves + 1) + n = omega arith in
+      let s : walk_from P (b - n) z ≡ one_more (walk_from P (b - (n + 1)) (after z m)) = ap (λ (i : ℕ). walk_from P i z) left ∙ walk_step (b - (n + 1)) z m (sym e) in
       ap (λ (v : List ℤ). plus (n + 1) (walk_from P (b - (n + 1)) v)) ey
-      ∙ ap (λ (i : ℕ). record { point = x.point; moves = i; end = x.end }) count
+      ∙ plus_one n (walk_from P (b - (n + 1)) (after z m))
       ∙ sym (ap (plus n) s)
       ∙ inv
 

@@ -34,12 +34,17 @@ pub record Lawful (P : Problem) (budget : ℕ) (z y : List ℤ) (w : Walked) : T
   -- each move taken is the first that lowers, and the count is that of the moves taken
   pub descends : Downhill P z w.moves y
   pub within_budget : w.moves ≤ budget
+  pub from_bounds : InBounds P z
   pub in_bounds : InBounds P y
   pub no_worse : NoWorse P (places z) (places y)
   -- settled means that no move lowers; spent, that one does and the budget is used
   pub settled : w.end ≡ Settled → (m : Move) → Descent P y m → ⊥
   pub spent : w.end ≡ Spent → (w.moves ≡ budget) × ((m : Move) × Descent P y m)
 
--- no other end and report keep to that
+-- no other end and report keep to the law
 abbrev pub Alone : Problem → (budget : ℕ) → (z y : List ℤ) → Walked → Type 0
 Alone P budget z y w = (y' : List ℤ) (w' : Walked) → Lawful P budget z y' w' → (y' ≡ y) × (w' ≡ w)
+
+-- a refusal: z is no point inside its bounds, and stands
+abbrev pub Refused : Problem → (z y : List ℤ) → Type 0
+Refused P z y = (InBounds P z → ⊥) × (y ≡ z)

@@ -1,8 +1,8 @@
 //! The walk itself.
-ghost use Rattle.std.specs.Prelude.{◌≡◌, IfOk};
+ghost use Rattle.std.specs.Prelude.{◌≡◌, IfOk, IfErr};
 ghost use Rattle.job.specs.Bounds.{InBounds};
 ghost use Rattle.job.specs.Numbers.{problem_of};
-ghost use Rattle.walk.specs.Laws.{Lawful, Alone};
+ghost use Rattle.walk.specs.Laws.{Lawful, Alone, Refused};
 ghost use Rattle.walk.specs.Walks.{walk_from, ended, walked, walked_to};
 
 use crate::ends::{End, OutOfBounds, Walked};
@@ -42,6 +42,7 @@ pub fn walk(job: &Job, point: &mut [i64], budget: u32) -> Result<Walked, OutOfBo
     ensures point { point.new ≡ walked_to (problem_of job.now) budget point.old }
     ensures law { IfOk result (λ w. Lawful (problem_of job.now) budget point.old point.new w) }
     ensures alone { IfOk result (λ w. Alone (problem_of job.now) budget point.old point.new w) }
+    ensures refused { IfErr result (λ _. Refused (problem_of job.now) point.old point.new) }
 {
     if !job.in_bounds(point) {
         return Err(OutOfBounds);

@@ -1,4 +1,5 @@
-use Rattle.std.proofs.Common.{sym, refl}
+use Rattle.std.proofs.Common.{false, sym, refl}
+use Rattle.std.proofs.lemmas.Bool.{both_ways}
 use Rattle.job.specs.Numbers.{problem_of}
 use Rattle.walk.proofs.Alone.{alone}
 use Rattle.walk.proofs.Answered.{walked_not, stays, walked_is, walked_to_is}
@@ -13,6 +14,7 @@ returns-then-not-in_bounds c =
       point = stays (problem_of c.args.job.now) c.args.budget c.args.point.now no';
       law = tt;
       alone = tt;
+      refused = (λ h. both_ways false refl (c.if-not-in_bounds.ensures.law.1 h), refl);
     }
 
 pub descend-requires : goal.descend-requires
@@ -28,4 +30,5 @@ returns c =
       point = walked_to_is (problem_of c.args.job.now) c.args.budget c.args.point.now c.descend.new.z _ i e;
       law = law;
       alone = alone (problem_of c.args.job.now) c.args.budget c.args.point.now c.descend.new.z _ law;
+      refused = tt;
     }
