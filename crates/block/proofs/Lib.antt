@@ -4,5 +4,6 @@ pub mod FirstSet
 pub mod NumbersAsBytes
 pub mod Laying
 pub mod RoundTrip
-pub mod SpareLaw
+pub mod Saying
 pub mod WholeAt
+pub mod Placing

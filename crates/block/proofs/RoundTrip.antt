@@ -8,7 +8,7 @@ use Rattle.block.specs.declared.fault.Fault.{Fault}
 use Rattle.block.specs.Bytes.{le16, num, bytes2, bytes4}
 use Rattle.block.specs.Blocks.{weighed, check_of, filled, body_of, block_of, numbers_of}
 use Rattle.block.specs.Checks.{Verdict, and_then, first_set, spare_in, sum_check, name_check, spare_check, block_check}
-use Rattle.block.specs.Spares.{Exact}
+use Rattle.block.specs.Laws.{Exact}
 use Rattle.block.proofs.LittleEndian.{two_back}
 use Rattle.block.proofs.FirstSet.{spare_ok}
 use Rattle.block.proofs.NumbersAsBytes.{drop_four, numbers_bytes, none_set, zeros_none, zero_numbers, joined4_append, read_back}

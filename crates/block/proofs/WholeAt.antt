@@ -1,7 +1,7 @@
 -- What a card that has block k, or has it not, says of its length.
-use Rattle.std.proofs.Common.{◌≡◌, ℕ, ◌+◌, ◌-◌, ◌*◌, ◌<◌, ◌≤◌, Bool, true, false, cond, leb, List, length, get_or, take, drop, Some, None, sym, refl, ap, ◌∙◌, arith}
-use Rattle.std.proofs.lemmas.List.{get_or-take, get_or-drop, length-drop, take_all}
-use Rattle.std.proofs.lemmas.Bool.{leb-true, le-leb}
+use Rattle.std.proofs.Common.{◌≡◌, ℕ, ◌+◌, ◌-◌, ◌*◌, ◌<◌, ◌≤◌, Bool, true, false, cond, leb, List, length, get_or, take, drop, Some, None, sym, refl, ap, ◌∙◌, ⊎_elim, arith}
+use Rattle.std.proofs.lemmas.List.{get_or-take, get_or-drop, get_or_past, length-take, length-drop, take_all}
+use Rattle.std.proofs.lemmas.Bool.{cases_lt, leb-true, le-leb}
 use Rattle.block.specs.Blocks.{block_at, whole_at}
 
 module _ (card : List ℕ) (k : ℕ) where
@@ -26,3 +26,11 @@ module _ (card : List ℕ) (k : ℕ) where
       let all : rest ≡ drop (k * 512) card = r ∙ take_all (length card - k * 512) (drop (k * 512) card) (omega (arith, length-drop (k * 512) card)) in
       let room : leb (k * 512 + 512) (length card) ≡ true = le-leb (k * 512 + 512) (length card) (omega (arith, length-drop (k * 512) card, ap length all)) in
       ap Some (b ∙ ap (take 512) all) ∙ sym (ap (λ t. cond t (Some (block_at card k)) None) room)
+
+  -- the bytes of a block are bytes of the card, or none
+  pub block_small : ((q : ℕ) → get_or card q 0 < 256) → (q : ℕ) → get_or (block_at card k) q 0 < 256
+  block_small small q =
+      ⊎_elim
+      (λ (less : q < 512). rw (block_byte q less) (small (k * 512 + q)))
+      (λ (more : 512 ≤ q). let past : length (block_at card k) ≤ q = simp length-take (omega arith) in rw (get_or_past (block_at card k) q 0 past) (omega arith))
+      (cases_lt q 512)

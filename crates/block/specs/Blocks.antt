@@ -41,7 +41,7 @@ whole_at card k = cond (nat_le (k * 512 + 512) (length card)) (Some (block_at ca
 -- the bytes of a block that may be missing
 abbrev pub bytes_of : Option Block → Option (List ℕ)
 bytes_of None = None
-bytes_of (Some b) = Some b.bytes
+bytes_of (Some b) = Some b.bytes.now
 
 -- each number fits four bytes
 abbrev pub Fit : List ℤ → Type 0

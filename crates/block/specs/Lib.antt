@@ -1,5 +1,7 @@
 pub mod Bytes
+pub mod Kinds
 pub mod Blocks
 pub mod Checks
 pub mod Notices
-pub mod Spares
+pub mod Laws
+pub mod Writes

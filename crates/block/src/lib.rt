@@ -4,9 +4,14 @@
 mod block;
 mod checks;
 mod fault;
+mod kind;
+mod names;
 mod reads;
 mod writes;
 
 pub use block::Block;
 pub use fault::{Fault, Layer, Notice};
+pub use kind::Kind;
+pub use names::UnknownKind;
 pub use reads::number_at;
+pub use writes::write_block;

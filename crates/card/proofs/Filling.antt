@@ -5,8 +5,8 @@ use Rattle.std.proofs.lemmas.Bool.{cases_lt}
 use Rattle.block.specs.Blocks.{Fit}
 use Rattle.std.proofs.lemmas.List.{append-nil}
 use Rattle.std.proofs.lemmas.Int.{to_z_pos}
-use Rattle.section.specs.declared.kind.Kind.{Kind}
-use Rattle.section.specs.declared.kind.Kind.TheVariants.{Head, Curvature, Rows, Costs, Bounds, Limits, Slip}
+use Rattle.block.specs.declared.kind.Kind.{Kind}
+use Rattle.block.specs.declared.kind.Kind.TheVariants.{Head, Curvature, Rows, Costs, Bounds, Limits, Slip}
 use Rattle.card.specs.declared.contents.Contents.{Contents}
 use Rattle.section.specs.declared.sizes.Sizes.{Sizes}
 use Rattle.card.specs.declared.contents.Numbers.{Numbers}
@@ -17,12 +17,12 @@ use Rattle.card.specs.Cards.{section_into, head_of}
 -- contents have what their sizes ask for
 pub all_counted : (x : Contents) → Counted x.sizes (numbers x)
 all_counted x Head = refl
-all_counted x Curvature = sym x.numbers.curvature.ok.0 ∙ x.square
-all_counted x Rows = sym x.numbers.rows.ok.0 ∙ x.lined
-all_counted x Costs = sym x.numbers.costs.ok.0 ∙ x.priced
-all_counted x Bounds = sym x.numbers.bounds.ok.0 ∙ x.bounded
-all_counted x Limits = sym x.numbers.limits.ok.0 ∙ x.limited
-all_counted x Slip = sym x.numbers.slip.ok.0 ∙ x.slipped
+all_counted x Curvature = x.square
+all_counted x Rows = x.lined
+all_counted x Costs = x.priced
+all_counted x Bounds = x.bounded
+all_counted x Limits = x.limited
+all_counted x Slip = x.slipped
 
 -- writing a section's numbers is writing the numbers that they are
 pub section_as : (s : Sizes) (kind : Kind) (o o' : List ℕ) (xs ys : List ℤ) → xs ≡ ys

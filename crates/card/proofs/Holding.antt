@@ -3,8 +3,8 @@ use Rattle.std.proofs.Common.{◌≡◌, ℕ, ◌+◌, ◌*◌, ◌<◌, ◌≤�
 use Rattle.std.proofs.lemmas.Nat.{mul-add-lt}
 use Rattle.std.proofs.lemmas.Bool.{le-leb}
 use Rattle.block.specs.Bytes.{num, number_at}
-use Rattle.section.specs.declared.kind.Kind.{Kind}
-use Rattle.section.specs.declared.kind.Kind.TheVariants.{Curvature, Rows}
+use Rattle.block.specs.declared.kind.Kind.{Kind}
+use Rattle.block.specs.declared.kind.Kind.TheVariants.{Curvature, Rows}
 use Rattle.section.specs.Layout.{blocks_for, count_of, first_of}
 use Rattle.section.specs.Sections.{spot_of}
 use Rattle.section.proofs.Spots.{number_stands}

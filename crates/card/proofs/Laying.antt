@@ -7,10 +7,11 @@ use Rattle.std.proofs.lemmas.List.Edits.{paste-paste, paste_all}
 use Rattle.std.proofs.lemmas.Slice.{put_mid-paste}
 use Rattle.std.proofs.lemmas.Bool.{cases_lt}
 use Rattle.block.specs.Blocks.{block_of, Fit}
+use Rattle.block.specs.Writes.{put_block}
 use Rattle.block.proofs.Laying.{length_block, length_part}
-use Rattle.section.specs.declared.kind.Kind.{Kind}
-use Rattle.section.specs.declared.kind.Kind.TheVariants.{Curvature, Rows, Costs, Bounds, Limits, Slip}
-use Rattle.section.specs.Kinds.{letter_of}
+use Rattle.block.specs.declared.kind.Kind.{Kind}
+use Rattle.block.specs.declared.kind.Kind.TheVariants.{Curvature, Rows, Costs, Bounds, Limits, Slip}
+use Rattle.block.specs.Kinds.{letter_of}
 use Rattle.section.specs.Layout.{blocks_for, count_of, first_of, blocks_in}
 use Rattle.card.specs.Cards.{laid, section_of, head_of, card_of}
 
@@ -50,23 +51,20 @@ part_is part rest e =
     (cases_lt (length part) 126)
 
 -- one turn of the loop that writes a run
-pub run_more : (d out ys bs : List ℕ) (letter k b size : ℕ) (nums : List ℤ) → out ≡ paste d (k * 512) (laid letter k nums b) (b * 512) → k * 512 ≤ length d
-    → size ≡ 512 → ys ≡ bs → bs ≡ block_of letter (k + b) (take 126 (drop (b * 126) nums))
-    → put_mid ((k + b) * 512) size out ys ≡ paste d (k * 512) (laid letter k nums (b + 1)) ((b + 1) * 512)
-run_more d out ys bs letter k b size nums inv room s y e =
+pub run_more : (d out : List ℕ) (letter k b : ℕ) (nums : List ℤ) → out ≡ paste d (k * 512) (laid letter k nums b) (b * 512) → k * 512 ≤ length d
+    → put_block out (k + b) (block_of letter (k + b) (take 126 (drop (b * 126) nums))) ≡ paste d (k * 512) (laid letter k nums (b + 1)) ((b + 1) * 512)
+run_more d out letter k b nums inv room =
     let B : List ℕ = block_of letter (k + b) (take 126 (drop (b * 126) nums)) in
     let L : List ℕ = laid letter k nums b in
-    let same : ys ≡ B = y ∙ e in
     let long : 512 ≡ length B = sym (length_block letter (k + b) (take 126 (drop (b * 126) nums)) (length_part (drop (b * 126) nums))) in
     let at : (k + b) * 512 ≡ k * 512 + b * 512 = omega arith in
     let count : b * 512 + 512 ≡ (b + 1) * 512 = omega arith in
     let one : suc b ≡ b + 1 = omega arith in
-    put_mid-paste ((k + b) * 512) size out ys B 512 same (sym s) long
-    ∙ (ap (λ o. paste o ((k + b) * 512) B 512) inv
+    ap (λ o. paste o ((k + b) * 512) B 512) inv
     ∙ (ap (λ p. paste (paste d (k * 512) L (b * 512)) p B 512) at
     ∙ (paste-paste d (k * 512) L B (b * 512) 512 (sym (length_laid letter k nums b)) long room
     ∙ (ap (λ t. paste d (k * 512) t (b * 512 + 512)) (sym (laid_push letter k nums b) ∙ ap (laid letter k nums) one)
-    ∙ ap (λ n. paste d (k * 512) (laid letter k nums (b + 1)) n) count))))
+    ∙ ap (λ n. paste d (k * 512) (laid letter k nums (b + 1)) n) count)))
 
 -- the numbers fit, one part more
 pub fits_more : (nums : List ℤ) (b : ℕ) → ((k : ℕ) → k < b * 126 → k < length nums → SFits w32 (get_or nums k (pos 0))) → Fit (take 126 (drop (b * 126) nums))

@@ -5,3 +5,7 @@ pub mod Passing
 pub mod Filling
 pub mod Holding
 pub mod Checking
+pub mod Owners
+pub mod Spans
+pub mod Saying
+pub mod Finding

@@ -9,9 +9,9 @@ use Rattle.block.specs.Blocks.{check_of, block_at, block_of, numbers_of, Fit}
 use Rattle.block.specs.Checks.{Verdict, and_then, first_set, no_spare, sum_check, name_check, spare_check, block_check}
 use Rattle.block.proofs.Laying.{length_block, length_part}
 use Rattle.block.proofs.RoundTrip.{passes, block_passed, block_read}
-use Rattle.section.specs.declared.kind.Kind.{Kind}
-use Rattle.section.specs.declared.kind.Kind.TheVariants.{Head, Curvature, Rows, Costs, Bounds, Limits, Slip}
-use Rattle.section.specs.Kinds.{letter_of}
+use Rattle.block.specs.declared.kind.Kind.{Kind}
+use Rattle.block.specs.declared.kind.Kind.TheVariants.{Head, Curvature, Rows, Costs, Bounds, Limits, Slip}
+use Rattle.block.specs.Kinds.{letter_of}
 use Rattle.section.specs.Layout.{InRange, blocks_for, count_of, first_of, blocks_in}
 use Rattle.card.specs.Faults.{n_of, m_of, in_size, size_check, head_check, length_check, full_check, run_check, section_check, sections_check, card_check}
 use Rattle.card.specs.Cards.{laid, section_of, head_of, card_of}
@@ -120,7 +120,7 @@ module _ (n m : ℕ) (sizes : InRange n m) where
       let q : m * n ≤ 512 = mul-le m n 32 16 sizes.short sizes.few in
       omega (arith, sizes.few, sizes.short)
 
-  sizes_pass : in_size (pos n) (pos m) ≡ true
+  pub sizes_pass : in_size (pos n) (pos m) ≡ true
   sizes_pass =
       and_from (leb 1 n && leb n 16) (leb 0 m && leb m 32)
       (and_from (leb 1 n) (leb n 16) (le-leb 1 n sizes.some) (le-leb n 16 sizes.few))

@@ -3,7 +3,7 @@ use Rattle.std.proofs.Common.{◌≡◌, ℕ, suc, ◌+◌, ◌-◌, ◌<◌, mi
 use Rattle.block.specs.declared.fault.Fault.{Fault}
 use Rattle.block.specs.Blocks.{block_at}
 use Rattle.block.specs.Checks.{Verdict, and_then, block_check}
-use Rattle.section.specs.declared.kind.Kind.{Kind}
+use Rattle.block.specs.declared.kind.Kind.{Kind}
 use Rattle.section.specs.Layout.{blocks_for}
 use Rattle.card.specs.Faults.{run_check, section_check}
 

@@ -8,9 +8,9 @@ use Rattle.block.specs.Bytes.{num}
 use Rattle.block.specs.Blocks.{block_at, block_of, numbers_of}
 use Rattle.block.specs.Checks.{Verdict, and_then, block_check, sum_check, name_check, spare_check}
 use Rattle.block.proofs.RoundTrip.{then_ok, cond_ok, passed, block_back, length_numbers}
-use Rattle.section.specs.declared.kind.Kind.{Kind}
-use Rattle.section.specs.declared.kind.Kind.TheVariants.{Curvature, Rows, Costs, Bounds, Limits, Slip}
-use Rattle.section.specs.Kinds.{letter_of}
+use Rattle.block.specs.declared.kind.Kind.{Kind}
+use Rattle.block.specs.declared.kind.Kind.TheVariants.{Curvature, Rows, Costs, Bounds, Limits, Slip}
+use Rattle.block.specs.Kinds.{letter_of}
 use Rattle.section.specs.Layout.{InRange, blocks_for, count_of, first_of, blocks_in}
 use Rattle.card.specs.Faults.{n_of, m_of, in_size, size_check, head_check, length_check, full_check, run_check, section_check, sections_check, card_check}
 use Rattle.card.specs.Cards.{laid, section_of, head_of, card_of}
@@ -26,7 +26,7 @@ take_two xs m n =
     sym (take-append-drop m (take (m + n) xs)) ∙ (ap (λ t. t ++ drop m (take (m + n) xs)) (take-take m (m + n) xs (omega arith)) ∙ ap (λ t. take m xs ++ t) (drop-take m n xs))
 
 -- a size that is not negative is the number that the head has
-size_is : (low : ℕ) (z : ℤ) → le_z (pos low) z ≡ true → pos (nat_abs z) ≡ z
+pub size_is : (low : ℕ) (z : ℤ) → le_z (pos low) z ≡ true → pos (nat_abs z) ≡ z
 size_is low (pos n) h = refl
 size_is low (negsuc n) h = let z : ◌≡◌ {A = ℕ} 0 1 = cc in absurd (omega arith)
 

@@ -2,10 +2,10 @@
 use Rattle.std.specs.Prelude.{ℕ, zero, suc, ◌+◌, ◌*◌, List, [], ◌∷◌, ◌++◌, take, drop, ℤ, pos}
 use Rattle.std.proofs.Math.Seq.{paste}
 use Rattle.block.specs.Blocks.{block_of}
-use Rattle.section.specs.declared.kind.Kind.{Kind}
-use Rattle.section.specs.declared.kind.Kind.TheVariants.{Curvature, Rows, Costs, Bounds, Limits, Slip}
+use Rattle.block.specs.declared.kind.Kind.{Kind}
+use Rattle.block.specs.declared.kind.Kind.TheVariants.{Curvature, Rows, Costs, Bounds, Limits, Slip}
 use Rattle.section.specs.declared.sizes.Sizes.{Sizes}
-use Rattle.section.specs.Kinds.{letter_of}
+use Rattle.block.specs.Kinds.{letter_of}
 use Rattle.section.specs.Layout.{blocks_for, count_of, first_of, start_of, numbers_for}
 
 -- b blocks under one letter from block k on: 126 numbers to a block

@@ -1,9 +1,9 @@
 -- What is to be written on a card.
-use Rattle.std.specs.Prelude.{◌≡◌, ℕ, cond, List, [], ◌∷◌, ◌++◌, length, drop, ℤ, pos, Some, None, Ok, Err, vec_items, Option, Result, nat_le}
+use Rattle.std.specs.Prelude.{◌≡◌, ℕ, cond, List, [], ◌∷◌, ◌++◌, length, drop, ℤ, pos, Some, None, Ok, Err, Option, Result, nat_le}
 use Rattle.block.specs.declared.fault.Fault.{Fault}
 use Rattle.block.specs.declared.fault.Fault.TheVariants.{Short}
-use Rattle.section.specs.declared.kind.Kind.{Kind}
-use Rattle.section.specs.declared.kind.Kind.TheVariants.{Head, Curvature, Rows, Costs, Bounds, Limits, Slip}
+use Rattle.block.specs.declared.kind.Kind.{Kind}
+use Rattle.block.specs.declared.kind.Kind.TheVariants.{Head, Curvature, Rows, Costs, Bounds, Limits, Slip}
 use Rattle.section.specs.declared.sizes.Sizes.{Sizes}
 use Rattle.card.specs.declared.contents.Contents.{Contents}
 use Rattle.card.specs.declared.contents.Numbers.{Numbers}
@@ -21,7 +21,7 @@ sections s curvature rows costs bounds limits slip Limits = limits
 sections s curvature rows costs bounds limits slip Slip = slip
 
 abbrev pub sections_of : Sizes → Numbers → Kind → List ℤ
-sections_of s y = sections s (vec_items y.curvature) (vec_items y.rows) (vec_items y.costs) (vec_items y.bounds) (vec_items y.limits) (vec_items y.slip)
+sections_of s y = sections s y.curvature.now y.rows.now y.costs.now y.bounds.now y.limits.now y.slip.now
 
 abbrev pub numbers : Contents → Kind → List ℤ
 numbers x = sections_of x.sizes x.numbers
@@ -29,12 +29,12 @@ numbers x = sections_of x.sizes x.numbers
 -- the numbers after the head by their kind, and none for the head
 abbrev pub part_of : Numbers → Kind → List ℤ
 part_of y Head = []
-part_of y Curvature = vec_items y.curvature
-part_of y Rows = vec_items y.rows
-part_of y Costs = vec_items y.costs
-part_of y Bounds = vec_items y.bounds
-part_of y Limits = vec_items y.limits
-part_of y Slip = vec_items y.slip
+part_of y Curvature = y.curvature.now
+part_of y Rows = y.rows.now
+part_of y Costs = y.costs.now
+part_of y Bounds = y.bounds.now
+part_of y Limits = y.limits.now
+part_of y Slip = y.slip.now
 
 -- contents are made of sections that have as many numbers as the sizes ask for, and of no others
 abbrev pub Counted : Sizes → (Kind → List ℤ) → Type 0

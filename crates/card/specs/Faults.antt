@@ -5,9 +5,9 @@ use Rattle.block.specs.declared.fault.Fault.TheVariants.{Length, Sizes}
 use Rattle.block.specs.Bytes.{num}
 use Rattle.block.specs.Blocks.{block_at}
 use Rattle.block.specs.Checks.{Verdict, and_then, sum_check, name_check, spare_check, block_check}
-use Rattle.section.specs.declared.kind.Kind.{Kind}
-use Rattle.section.specs.declared.kind.Kind.TheVariants.{Curvature, Rows, Costs, Bounds, Limits, Slip}
-use Rattle.section.specs.Kinds.{letter_of}
+use Rattle.block.specs.declared.kind.Kind.{Kind}
+use Rattle.block.specs.declared.kind.Kind.TheVariants.{Curvature, Rows, Costs, Bounds, Limits, Slip}
+use Rattle.block.specs.Kinds.{letter_of}
 use Rattle.section.specs.Layout.{blocks_for, count_of, first_of, blocks_in}
 
 -- the sizes that the head's two numbers give

@@ -2,8 +2,9 @@
 use Rattle.std.specs.Prelude.{◌≡◌, ℕ, ◌+◌, ◌*◌, ◌<◌, List, ℤ, pos, Some, slice_index_or}
 use Rattle.std.specs.Option.{unwrap_or}
 use Rattle.block.specs.Bytes.{number_at}
-use Rattle.section.specs.declared.kind.Kind.{Kind}
-use Rattle.section.specs.Layout.{blocks_for}
+use Rattle.block.specs.declared.kind.Kind.{Kind}
+use Rattle.block.specs.declared.kind.Kind.TheVariants.{Curvature, Rows}
+use Rattle.section.specs.Layout.{first_of}
 use Rattle.section.specs.Numbers.{numbers_in}
 use Rattle.section.specs.Sections.{spot_of}
 use Rattle.table.specs.Grid.{Grid, cut, height_of, width_of, limited, place_of}
@@ -21,11 +22,11 @@ section_grid card first rows columns =
 
 -- section G: as many rows and columns as there are ropes
 abbrev pub curvature_grid : List ℕ → Grid
-curvature_grid card = section_grid card 1 (size_at card 4) (size_at card 4)
+curvature_grid card = section_grid card (first_of Curvature (cut (size_at card 4)) (cut (size_at card 8))) (size_at card 4) (size_at card 4)
 
 -- section A, after the blocks of G
 abbrev pub rows_grid : List ℕ → Grid
-rows_grid card = section_grid card (1 + blocks_for (cut (size_at card 4) * cut (size_at card 4))) (size_at card 8) (size_at card 4)
+rows_grid card = section_grid card (first_of Rows (cut (size_at card 4)) (cut (size_at card 8))) (size_at card 8) (size_at card 4)
 
 -- what a card table means
 abbrev pub grid_of : CardTable → Grid

@@ -2,8 +2,8 @@
 use Rattle.std.specs.Prelude.{◌≡◌, ℕ, List, [], ◌∷◌, length, ℤ, pos, Ok}
 use Rattle.block.specs.Blocks.{Fit}
 use Rattle.block.specs.Checks.{Verdict}
-use Rattle.section.specs.declared.kind.Kind.{Kind}
-use Rattle.section.specs.declared.kind.Kind.TheVariants.{Head}
+use Rattle.block.specs.declared.kind.Kind.{Kind}
+use Rattle.block.specs.declared.kind.Kind.TheVariants.{Head}
 use Rattle.section.specs.Layout.{InRange, count_of}
 use Rattle.card.specs.Faults.{n_of, m_of}
 use Rattle.section.specs.Numbers.{numbers_in}

@@ -3,16 +3,20 @@ ghost use Rattle.block.specs.Bytes.{num};
 ghost use Rattle.block.specs.Blocks.{block_at};
 ghost use Rattle.section.specs.Layout.{blocks_for};
 ghost use Rattle.card.specs.Faults.{n_of, m_of, length_check, size_check, first_check, full_check, run_check, section_check, sections_check, card_check, verdict};
+ghost use Rattle.block.specs.Kinds.{letter_of};
+ghost use Rattle.block.specs.Laws.{Rightly};
+ghost use Rattle.card.specs.Faulty.{Says};
 ghost use Rattle.card.specs.Laws.{Exact};
 
 use crate::full::Full;
+use crate::sound_card::SoundCard;
 use block::{Block, Fault, number_at};
 use section::{Kind, Sizes, blocks_for};
 
 /// Block `number` of a card that has it.
-fn block_at(card: &[u8], number: u16) -> Block
+fn block_at<'a>(card: &'a [u8], number: u16) -> Block<'a>
     requires { number * 512 + 512 ≤ length card.now }
-    ensures { result.bytes ≡ block_at card.now number }
+    ensures { result.bytes.now ≡ block_at card.now number }
 {
     Block::read(card, number).unwrap()
 }
@@ -32,16 +36,16 @@ fn check_length(len: usize) -> Result<(), Fault>
 /// A size that a head gives, if it is a number of two bytes.
 fn size_at(head: &Block, at: usize) -> Option<u16>
     requires { at + 4 ≤ 512 }
-    ensures { MatchOption result ((int_le (pos 0) (num head.now.bytes at) && int_le (num head.now.bytes at) (pos 65535)) ≡ false)
-        (λ k. num head.now.bytes at ≡ pos k) }
+    ensures { MatchOption result ((int_le (pos 0) (num head.now.bytes.now at) && int_le (num head.now.bytes.now at) (pos 65535)) ≡ false)
+        (λ k. num head.now.bytes.now at ≡ pos k) }
 {
     u16::try_from(number_at(head.bytes(), at)?).ok()
 }
 
 /// The sizes that a head gives, if they are in range.
 fn sizes_in(head: &Block) -> Result<Sizes, Fault>
-    ensures value { verdict result ≡ size_check head.now.bytes }
-    ensures sizes { IfOk result (λ s. (s.ropes ≡ n_of head.now.bytes) × (s.rows ≡ m_of head.now.bytes)) }
+    ensures value { verdict result ≡ size_check head.now.bytes.now }
+    ensures sizes { IfOk result (λ s. (s.ropes ≡ n_of head.now.bytes.now) × (s.rows ≡ m_of head.now.bytes.now)) }
 {
     let (Some(ropes), Some(rows)) = (size_at(head, 4), size_at(head, 8)) else {
         return Err(Fault::Sizes { block: 0 });
@@ -51,11 +55,11 @@ fn sizes_in(head: &Block) -> Result<Sizes, Fault>
 
 /// The sizes that a head gives, if it passes: its check sum, its name, its sizes, its spare bytes.
 fn check_head(head: &Block) -> Result<Sizes, Fault>
-    ensures value { verdict result ≡ first_check head.now.bytes }
-    ensures sizes { IfOk result (λ s. (s.ropes ≡ n_of head.now.bytes) × (s.rows ≡ m_of head.now.bytes)) }
+    ensures value { verdict result ≡ first_check head.now.bytes.now }
+    ensures sizes { IfOk result (λ s. (s.ropes ≡ n_of head.now.bytes.now) × (s.rows ≡ m_of head.now.bytes.now)) }
 {
     head.check_sum(0)?;
-    head.check_name(b'H', 0)?;
+    head.check_name(Kind::Head, 0)?;
     let sizes = sizes_in(head)?;
     head.check_spare(0, 2)?;
     Ok(sizes)
@@ -73,15 +77,15 @@ fn check_full<'a>(card: &'a [u8], sizes: Sizes) -> Result<Full<'a>, Fault>
     }
 }
 
-/// The first fault of the blocks that hold `count` numbers under one letter.
-fn check_run(card: &[u8], letter: u8, first: u16, count: u16) -> Result<(), Fault>
+/// The first fault of the blocks that hold `count` numbers of one section.
+fn check_run(card: &[u8], kind: Kind, first: u16, count: u16) -> Result<(), Fault>
     requires { ((first + blocks_for count) * 512 ≤ length card.now) × ((first ≤ 26) × (count ≤ 512)) }
-    ensures { result ≡ run_check card.now letter first count (blocks_for count) }
+    ensures { result ≡ run_check card.now (letter_of kind) first count (blocks_for count) }
 {
     let mut left = count;
     for number in first..first + blocks_for(count) {
         let used = left.min(Block::NUMBERS as u16);
-        block_at(card, number).check(letter, number, used as u8)?;
+        block_at(card, number).check(kind, number, used as u8)?;
         left -= used;
     }
     Ok(())
@@ -93,7 +97,7 @@ impl Full<'_> {
         ensures { result ≡ section_check self.now.card.now kind self.now.sizes.ropes self.now.sizes.rows }
     {
         let first = self.sizes.first(kind);
-        check_run(self.card, kind.letter(), first, self.sizes.count(kind))
+        check_run(self.card, kind, first, self.sizes.count(kind))
     }
 
     /// The first fault of the blocks after the head.
@@ -107,15 +111,16 @@ impl Full<'_> {
     }
 }
 
-/// The sizes of a card, or the first fault of bytes that are none.
-/// Exactly the cards that are made of sizes in range and of numbers pass.
-pub fn check_card(card: &[u8]) -> Result<Sizes, Fault>
+/// The card as one that passes its check, or the first fault of bytes that are none.
+/// A fault is named exactly where it is the first, and exactly the cards that are made of sizes in range and of numbers pass.
+pub fn check_card<'a>(card: &'a [u8]) -> Result<SoundCard<'a>, Fault>
     ensures value { verdict result ≡ card_check card.now }
-    ensures sizes { IfOk result (λ s. (s.ropes ≡ n_of card.now) × (s.rows ≡ m_of card.now)) }
+    ensures same { IfOk result (λ s. s.bytes.now ≡ card.now) }
+    ensures rightly { Rightly (Says card.now) (verdict result) }
     ensures exact { Exact card.now (verdict result) }
 {
     check_length(card.len())?;
     let sizes = check_head(&block_at(card, 0))?;
     check_full(card, sizes)?.check_sections()?;
-    Ok(sizes)
+    Ok(SoundCard { bytes: card, sizes })
 }

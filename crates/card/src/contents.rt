@@ -1,27 +1,27 @@
-ghost use Rattle.std.specs.Prelude.{◌≡◌, ◌*◌, vec_len};
+ghost use Rattle.std.specs.Prelude.{◌≡◌, ◌*◌, length};
 
 use section::Sizes;
 
-/// The numbers of the sections of a card that follow its head.
-#[derive(Drop)]
-pub struct Numbers {
-    pub curvature: Vec<i32>,
-    pub rows: Vec<i32>,
-    pub costs: Vec<i32>,
-    pub bounds: Vec<i32>,
-    pub limits: Vec<i32>,
-    pub slip: Vec<i32>,
+/// The numbers of the sections of a card that follow its head, lent.
+#[derive(Clone, Copy)]
+pub struct Numbers<'a> {
+    pub curvature: &'a [i32],
+    pub rows: &'a [i32],
+    pub costs: &'a [i32],
+    pub bounds: &'a [i32],
+    pub limits: &'a [i32],
+    pub slip: &'a [i32],
 }
 
-/// The sizes of a job and the numbers of each section of its card, as many as the sizes ask for.
-#[derive(Drop)]
-pub struct Contents {
+/// The sizes of a job and the numbers of each section of its card, lent, as many as the sizes ask for.
+#[derive(Clone, Copy)]
+pub struct Contents<'a> {
     pub(crate) sizes: Sizes,
-    pub(crate) numbers: Numbers,
-    ghost square: { vec_len numbers.curvature ≡ sizes.ropes * sizes.ropes },
-    ghost lined: { vec_len numbers.rows ≡ sizes.rows * sizes.ropes },
-    ghost priced: { vec_len numbers.costs ≡ sizes.ropes },
-    ghost bounded: { vec_len numbers.bounds ≡ 2 * sizes.ropes },
-    ghost limited: { vec_len numbers.limits ≡ 2 * sizes.rows },
-    ghost slipped: { vec_len numbers.slip ≡ sizes.ropes * sizes.ropes },
+    pub(crate) numbers: Numbers<'a>,
+    ghost square: { length numbers.curvature.now ≡ sizes.ropes * sizes.ropes },
+    ghost lined: { length numbers.rows.now ≡ sizes.rows * sizes.ropes },
+    ghost priced: { length numbers.costs.now ≡ sizes.ropes },
+    ghost bounded: { length numbers.bounds.now ≡ 2 * sizes.ropes },
+    ghost limited: { length numbers.limits.now ≡ 2 * sizes.rows },
+    ghost slipped: { length numbers.slip.now ≡ sizes.ropes * sizes.ropes },
 }

@@ -1,11 +1,11 @@
 ghost use Rattle.std.specs.Prelude.{◌≡◌, Ok};
-ghost use Rattle.section.specs.declared.kind.Kind.TheVariants.{Curvature, Rows};
+ghost use Rattle.block.specs.declared.kind.Kind.TheVariants.{Curvature, Rows};
 ghost use Rattle.card.specs.Faults.{n_of, m_of, card_check};
 ghost use Rattle.card.specs.Grids.{size_at, curvature_grid, rows_grid, grid_of, Holds};
 
 use crate::card_table::CardTable;
 use block::{Block, number_at};
-use section::{blocks_for, spot_of};
+use section::{Kind, first_of, spot_of};
 use table::{Table, cut_size, limit_number};
 
 /// A size in the head, 0 where the bytes end before it.
@@ -24,7 +24,7 @@ impl<'a> CardTable<'a> {
         let ropes = size_at(card, 4);
         CardTable {
             bytes: card,
-            first: 1,
+            first: first_of(Kind::Curvature, cut_size(ropes) as u8, 0),
             rows: ropes,
             columns: ropes,
         }
@@ -36,11 +36,11 @@ impl<'a> CardTable<'a> {
         ensures holds { card_check card.now ≡ Ok tt → Holds card.now Rows (m_of card.now) (rows_grid card.now) }
     {
         let ropes = size_at(card, 4);
-        let n = cut_size(ropes);
+        let rows = size_at(card, 8);
         CardTable {
             bytes: card,
-            first: 1 + blocks_for((n * n) as u16),
-            rows: size_at(card, 8),
+            first: first_of(Kind::Rows, cut_size(ropes) as u8, cut_size(rows) as u8),
+            rows,
             columns: ropes,
         }
     }

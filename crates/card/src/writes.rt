@@ -1,25 +1,24 @@
 ghost use Rattle.std.specs.Prelude.{◌≡◌, ◌+◌, ◌*◌, ◌≤◌, ◌≢◌, length, Ok, OnOk, MatchOption};
 ghost use Rattle.block.specs.Blocks.{Fit};
+ghost use Rattle.block.specs.Kinds.{letter_of};
 ghost use Rattle.section.specs.Layout.{blocks_for, start_of, numbers_for, bytes_for};
 ghost use Rattle.card.specs.Faults.{card_check};
 ghost use Rattle.card.specs.Cards.{run_into, section_into};
-ghost use Rattle.card.specs.Contents.{sections, sections_of, part_of, numbers, Built, written, bytes_needed, write_answer, write_after};
+ghost use Rattle.card.specs.Contents.{sections_of, part_of, numbers, Built, written, bytes_needed, write_answer, write_after};
 ghost use Rattle.card.specs.Laws.{Proper, Reads};
 
 use crate::contents::{Contents, Numbers};
-use block::{Block, Fault};
+use block::{Block, Fault, write_block};
 use section::{Kind, Sizes};
 
-/// Writes the blocks that hold the numbers under one letter, from block `first` on.
-fn write_run(out: &mut [u8], letter: u8, first: u16, numbers: &[i32])
+/// Writes the blocks that hold the numbers of one section, from block `first` on, each in its place.
+fn write_run(out: &mut [u8], kind: Kind, first: u16, numbers: &[i32])
     requires { ((first + blocks_for (length numbers.now)) * 512 ≤ length out.old) × ((first ≤ 26) × (length numbers.now ≤ 512)) }
-    ensures value { out.new ≡ run_into out.old letter first numbers.now (blocks_for (length numbers.now)) }
+    ensures value { out.new ≡ run_into out.old (letter_of kind) first numbers.now (blocks_for (length numbers.now)) }
     ensures fits { Fit numbers.now }
 {
     for (b, part) in numbers.chunks(Block::NUMBERS).enumerate() {
-        let block = Block::make(letter, first + b as u16, part);
-        let at = (first as usize + b) * Block::BYTES;
-        out[at..at + Block::BYTES].copy_from_slice(block.bytes());
+        write_block(out, kind, first + b as u16, part);
     }
 }
 
@@ -32,7 +31,7 @@ fn write_section(out: &mut [u8], kind: Kind, sizes: &Sizes, numbers: &[i32])
     let first = sizes.first(kind);
     // Asked for its clause alone: a section has at most 512 numbers.
     let _count = sizes.count(kind);
-    write_run(out, kind.letter(), first, numbers);
+    write_run(out, kind, first, numbers);
 }
 
 /// Writes the sections in their order.
@@ -48,52 +47,27 @@ fn write_all(out: &mut [u8], x: &Contents)
     }
 }
 
-impl Numbers {
+impl<'a> Numbers<'a> {
     /// The numbers of a section. Those of the head are the sizes, so there are none here.
-    fn section(&self, kind: Kind) -> &[i32]
+    fn section(&self, kind: Kind) -> &'a [i32]
         ensures { result.now ≡ part_of self.now kind }
     {
         match kind {
             Kind::Head => &[],
-            Kind::Curvature => self.curvature.as_slice(),
-            Kind::Rows => self.rows.as_slice(),
-            Kind::Costs => self.costs.as_slice(),
-            Kind::Bounds => self.bounds.as_slice(),
-            Kind::Limits => self.limits.as_slice(),
-            Kind::Slip => self.slip.as_slice(),
+            Kind::Curvature => self.curvature,
+            Kind::Rows => self.rows,
+            Kind::Costs => self.costs,
+            Kind::Bounds => self.bounds,
+            Kind::Limits => self.limits,
+            Kind::Slip => self.slip,
         }
     }
 }
 
-impl Contents {
+impl<'a> Contents<'a> {
     /// The contents of a card, if each section has as many numbers as the sizes ask for.
-    pub fn new(
-        sizes: Sizes,
-        curvature: Vec<i32>,
-        rows: Vec<i32>,
-        costs: Vec<i32>,
-        bounds: Vec<i32>,
-        limits: Vec<i32>,
-        slip: Vec<i32>,
-    ) -> Option<Contents>
-        ensures { Built result sizes (sections sizes curvature.items rows.items costs.items bounds.items limits.items slip.items) }
-    {
-        Contents::of(
-            sizes,
-            Numbers {
-                curvature,
-                rows,
-                costs,
-                bounds,
-                limits,
-                slip,
-            },
-        )
-    }
-
-    /// The contents of a card from its numbers as one value, if each section has as many as the sizes ask for.
-    pub fn of(sizes: Sizes, numbers: Numbers) -> Option<Contents>
-        ensures { Built result sizes (sections_of sizes numbers) }
+    pub fn new(sizes: Sizes, numbers: Numbers<'a>) -> Option<Contents<'a>>
+        ensures { Built result sizes (sections_of sizes numbers.entry) }
     {
         for kind in Kind::AFTER_HEAD {
             if numbers.section(kind).len() != sizes.count(kind) as usize {

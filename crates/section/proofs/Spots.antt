@@ -7,8 +7,8 @@ use Rattle.std.proofs.lemmas.Bool.{cases_lt, le-leb}
 use Rattle.block.specs.Bytes.{num, number_at}
 use Rattle.block.specs.Blocks.{block_at, numbers_of}
 use Rattle.block.proofs.RoundTrip.{length_numbers}
-use Rattle.section.specs.declared.kind.Kind.{Kind}
-use Rattle.section.specs.declared.kind.Kind.TheVariants.{Head, Curvature, Rows, Costs, Bounds, Limits, Slip}
+use Rattle.block.specs.declared.kind.Kind.{Kind}
+use Rattle.block.specs.declared.kind.Kind.TheVariants.{Head, Curvature, Rows, Costs, Bounds, Limits, Slip}
 use Rattle.section.specs.Layout.{blocks_for, count_of, first_of, blocks_in}
 use Rattle.section.specs.Sections.{Part, kind_at, run_at, part_at, section_at, spot_of}
 use Rattle.section.specs.Numbers.{numbers_from, numbers_in, Located}
@@ -57,7 +57,7 @@ module _ (card : List ℕ) where
   section_at_lem n m kind q h = at_spot (first_of kind n m) (count_of kind n m) (blocks_for (count_of kind n m)) q refl h
 
   -- a section ends within the card
-  ends : (n m : ℕ) (kind : Kind) → first_of kind n m + blocks_for (count_of kind n m) ≤ blocks_in n m
+  pub ends : (n m : ℕ) (kind : Kind) → first_of kind n m + blocks_for (count_of kind n m) ≤ blocks_in n m
   ends n m Head = omega arith
   ends n m Curvature = omega arith
   ends n m Rows = omega arith

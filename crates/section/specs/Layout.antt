@@ -1,7 +1,7 @@
 -- Where the sections of a card lie, for n ropes and m rows.
-use Rattle.std.specs.Prelude.{◌≡◌, ℕ, ◌+◌, ◌*◌, ◌/◌, ◌≤◌, Some, None, Option}
-use Rattle.section.specs.declared.kind.Kind.{Kind}
-use Rattle.section.specs.declared.kind.Kind.TheVariants.{Head, Curvature, Rows, Costs, Bounds, Limits, Slip}
+use Rattle.std.specs.Prelude.{◌≡◌, ℕ, ◌+◌, ◌-◌, ◌*◌, ◌/◌, ◌<◌, ◌≤◌, min, Some, None, Option}
+use Rattle.block.specs.declared.kind.Kind.{Kind}
+use Rattle.block.specs.declared.kind.Kind.TheVariants.{Head, Curvature, Rows, Costs, Bounds, Limits, Slip}
 use Rattle.section.specs.declared.sizes.Sizes.{Sizes}
 
 -- the fewest blocks that hold `count` numbers, 126 to a block
@@ -52,3 +52,12 @@ numbers_for s kind = count_of kind s.ropes s.rows
 
 abbrev pub bytes_for : Sizes → ℕ
 bytes_for s = blocks_in s.ropes s.rows * 512
+
+-- the section has block b of a card of n ropes and m rows
+pub record HasBlock (kind : Kind) (n m b : ℕ) : Type 0 where
+  pub from : first_of kind n m ≤ b
+  pub to : b < first_of kind n m + blocks_for (count_of kind n m)
+
+-- how many numbers of the section block b holds
+abbrev pub used_in : Kind → ℕ → ℕ → ℕ → ℕ
+used_in kind n m b = min 126 (count_of kind n m - (b - first_of kind n m) * 126)

@@ -1,4 +1,3 @@
-pub mod Kinds
 pub mod Layout
 pub mod Sections
 pub mod Numbers

@@ -1,7 +1,7 @@
 -- The numbers of a card's sections.
 use Rattle.std.specs.Prelude.{◌≡◌, ℕ, zero, suc, ◌+◌, ◌-◌, ◌*◌, ◌<◌, min, List, [], ◌++◌, length, ℤ, pos, Some, None, Option, slice_index_or}
 use Rattle.block.specs.Blocks.{block_at, numbers_of}
-use Rattle.section.specs.declared.kind.Kind.{Kind}
+use Rattle.block.specs.declared.kind.Kind.{Kind}
 use Rattle.section.specs.Layout.{blocks_for, count_of, first_of, blocks_in}
 use Rattle.section.specs.Sections.{Part, value_at}
 

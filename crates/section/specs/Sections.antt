@@ -2,10 +2,10 @@
 use Rattle.std.specs.Prelude.{ℕ, ◌+◌, ◌*◌, ◌/◌, ◌%◌, cond, List, length, take, drop, ℤ, None, Option, nat_le, slice_index}
 use Rattle.std.specs.Option.{option_map}
 use Rattle.block.specs.Bytes.{number_at}
-use Rattle.section.specs.declared.kind.Kind.{Kind}
-use Rattle.section.specs.declared.kind.Kind.TheVariants.{Head, Curvature, Rows, Costs, Bounds, Limits, Slip}
+use Rattle.block.specs.declared.kind.Kind.{Kind}
+use Rattle.block.specs.declared.kind.Kind.TheVariants.{Head, Curvature, Rows, Costs, Bounds, Limits, Slip}
 use Rattle.section.specs.declared.section.Section.{Section}
-use Rattle.section.specs.Kinds.{kind_of}
+use Rattle.block.specs.Kinds.{kind_of}
 use Rattle.section.specs.Layout.{blocks_for, count_of}
 
 -- what a section is, which bytes it has, and the number of its first block

@@ -1,9 +1,8 @@
 ghost use Rattle.std.specs.Prelude.{◌≡◌, ◌*◌, ◌≤◌};
 ghost use Rattle.section.specs.Layout.{blocks_for, count_of, first_of, blocks_in, Sized};
 
-use crate::kind::Kind;
 use crate::sizes::Sizes;
-use block::Block;
+use block::{Block, Kind};
 
 /// The fewest blocks that hold `count` numbers.
 pub fn blocks_for(count: u16) -> u16
@@ -13,12 +12,55 @@ pub fn blocks_for(count: u16) -> u16
 }
 
 /// How many places a table of `rows` rows has.
-fn places(rows: u16, n: u16) -> u16
-    requires { (rows ≤ 32) × (n ≤ 16) }
+fn places(rows: u8, n: u8) -> u16
     ensures value { result ≡ rows * n }
-    ensures bound { result ≤ 512 }
+    ensures bound { result ≤ 65025 }
 {
-    rows * n
+    rows as u16 * n as u16
+}
+
+/// How many numbers a section has on a card of `n` ropes and `m` rows.
+pub fn count_of(kind: Kind, n: u8, m: u8) -> u16
+    ensures value { result ≡ count_of kind n m }
+    ensures bound { result ≤ 65025 }
+{
+    match kind {
+        Kind::Head => 2,
+        Kind::Curvature | Kind::Slip => places(n, n),
+        Kind::Rows => places(m, n),
+        Kind::Costs => n as u16,
+        Kind::Bounds => 2 * n as u16,
+        Kind::Limits => 2 * m as u16,
+    }
+}
+
+/// How many blocks hold a section's numbers.
+fn blocks_of(kind: Kind, n: u8, m: u8) -> u16
+    ensures value { result ≡ blocks_for (count_of kind n m) }
+    ensures bound { result ≤ 517 }
+{
+    blocks_for(count_of(kind, n, m))
+}
+
+/// The number of a section's first block on a card of `n` ropes and `m` rows.
+pub fn first_of(kind: Kind, n: u8, m: u8) -> u16
+    ensures value { result ≡ first_of kind n m }
+    ensures bound { result ≤ 2586 }
+{
+    let rows = 1 + blocks_of(Kind::Curvature, n, m);
+    let costs = rows + blocks_of(Kind::Rows, n, m);
+    let bounds = costs + blocks_of(Kind::Costs, n, m);
+    let limits = bounds + blocks_of(Kind::Bounds, n, m);
+    let slip = limits + blocks_of(Kind::Limits, n, m);
+    match kind {
+        Kind::Head => 0,
+        Kind::Curvature => 1,
+        Kind::Rows => rows,
+        Kind::Costs => costs,
+        Kind::Bounds => bounds,
+        Kind::Limits => limits,
+        Kind::Slip => slip,
+    }
 }
 
 impl Sizes {
@@ -27,7 +69,10 @@ impl Sizes {
         ensures { Sized result ropes rows }
     {
         if (1..=16).contains(&ropes) && rows <= 32 {
-            Some(Sizes { ropes, rows })
+            Some(Sizes {
+                ropes: ropes as u8,
+                rows: rows as u8,
+            })
         } else {
             None
         }
@@ -37,14 +82,14 @@ impl Sizes {
     pub fn ropes(&self) -> u16
         ensures { result ≡ self.now.ropes }
     {
-        self.ropes
+        self.ropes as u16
     }
 
     /// How many rows there are.
     pub fn rows(&self) -> u16
         ensures { result ≡ self.now.rows }
     {
-        self.rows
+        self.rows as u16
     }
 
     /// How many numbers a section has.
@@ -52,16 +97,7 @@ impl Sizes {
         ensures value { result ≡ count_of kind self.now.ropes self.now.rows }
         ensures bound { result ≤ 512 }
     {
-        let n = self.ropes;
-        let m = self.rows;
-        match kind {
-            Kind::Head => 2,
-            Kind::Curvature | Kind::Slip => places(n, n),
-            Kind::Rows => places(m, n),
-            Kind::Costs => n,
-            Kind::Bounds => 2 * n,
-            Kind::Limits => 2 * m,
-        }
+        count_of(kind, self.ropes, self.rows)
     }
 
     /// How many blocks hold a section's numbers.
@@ -77,20 +113,7 @@ impl Sizes {
         ensures value { result ≡ first_of kind self.now.ropes self.now.rows }
         ensures bound { result ≤ 26 }
     {
-        let rows = 1 + self.blocks(Kind::Curvature);
-        let costs = rows + self.blocks(Kind::Rows);
-        let bounds = costs + self.blocks(Kind::Costs);
-        let limits = bounds + self.blocks(Kind::Bounds);
-        let slip = limits + self.blocks(Kind::Limits);
-        match kind {
-            Kind::Head => 0,
-            Kind::Curvature => 1,
-            Kind::Rows => rows,
-            Kind::Costs => costs,
-            Kind::Bounds => bounds,
-            Kind::Limits => limits,
-            Kind::Slip => slip,
-        }
+        first_of(kind, self.ropes, self.rows)
     }
 
     /// How many bytes a card of these sizes has.

@@ -3,10 +3,9 @@ ghost use Rattle.std.specs.Option.{option_map};
 ghost use Rattle.section.specs.Sections.{part_of, kind_at, run_at, section_at, spot_of, value_at};
 ghost use Rattle.section.specs.Numbers.{Located};
 
-use crate::kind::Kind;
 use crate::section::Section;
 use crate::sizes::Sizes;
-use block::{Block, number_at};
+use block::{Block, Kind, number_at};
 
 /// The byte at which number `q` of a section starts in the section's bytes.
 pub fn spot_of(q: u16) -> usize
@@ -21,7 +20,7 @@ pub fn spot_of(q: u16) -> usize
 fn kind_at(card: &[u8], first: u16) -> Option<Kind>
     ensures { result ≡ kind_at card.now first }
 {
-    Kind::named(Block::read(card, first)?.letter())
+    Block::read(card, first)?.kind()
 }
 
 /// The blocks from `first` on, or what the card has of them.

@@ -3,8 +3,8 @@ use Rattle.std.proofs.Common.{◌≡◌, ℕ, ◌+◌, ◌*◌, ◌<◌, ◌≤�
 use Rattle.std.proofs.lemmas.List.{take-append-drop, take_at, drop_at}
 use Rattle.std.proofs.lemmas.Bool.{cases_lt, false≢true}
 use Rattle.duality.specs.Tests.{within}
-use Rattle.section.specs.declared.kind.Kind.{Kind}
-use Rattle.section.specs.declared.kind.Kind.TheVariants.{Curvature, Rows, Costs, Bounds, Limits, Slip}
+use Rattle.block.specs.declared.kind.Kind.{Kind}
+use Rattle.block.specs.declared.kind.Kind.TheVariants.{Curvature, Rows, Costs, Bounds, Limits, Slip}
 use Rattle.section.specs.Layout.{count_of}
 use Rattle.section.specs.Numbers.{numbers_in}
 use Rattle.table.specs.Grid.{Grid, height_of, width_of, limited, place_of, matrix_of}

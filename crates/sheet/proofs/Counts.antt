@@ -6,8 +6,8 @@ use Rattle.std.proofs.lemmas.List.{length-append}
 use Rattle.block.specs.Blocks.{block_at, numbers_of}
 use Rattle.block.specs.Checks.{Verdict}
 use Rattle.block.proofs.RoundTrip.{length_numbers}
-use Rattle.section.specs.declared.kind.Kind.{Kind}
-use Rattle.section.specs.declared.kind.Kind.TheVariants.{Costs, Bounds, Limits, Slip}
+use Rattle.block.specs.declared.kind.Kind.{Kind}
+use Rattle.block.specs.declared.kind.Kind.TheVariants.{Costs, Bounds, Limits, Slip}
 use Rattle.section.specs.Layout.{blocks_for, count_of, first_of}
 use Rattle.section.specs.Numbers.{numbers_from, numbers_in}
 use Rattle.table.specs.Grid.{Grid}

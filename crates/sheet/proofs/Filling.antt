@@ -5,8 +5,8 @@ use Rattle.std.proofs.lemmas.List.{append-nil, length-append}
 use Rattle.std.proofs.lemmas.Bool.{le-leb}
 use Rattle.block.specs.declared.fault.Fault.{Fault}
 use Rattle.block.specs.declared.fault.Fault.TheVariants.{Short}
-use Rattle.section.specs.declared.kind.Kind.{Kind}
-use Rattle.section.specs.declared.kind.Kind.TheVariants.{Head, Curvature, Rows, Costs, Bounds, Limits, Slip}
+use Rattle.block.specs.declared.kind.Kind.{Kind}
+use Rattle.block.specs.declared.kind.Kind.TheVariants.{Head, Curvature, Rows, Costs, Bounds, Limits, Slip}
 use Rattle.section.specs.declared.sizes.Sizes.{Sizes}
 use Rattle.section.specs.Layout.{blocks_in}
 use Rattle.table.specs.Grid.{Grid, height_of, matrix_of}

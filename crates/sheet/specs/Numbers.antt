@@ -1,8 +1,8 @@
 -- The numbers of a job as the sections of a card hold them, and the lists of a job as a card has them.
 use Rattle.std.specs.Prelude.{ℕ, ◌*◌, List, [], ◌∷◌, ◌++◌, ℤ, pos}
 use Rattle.table.specs.Grid.{Grid, height_of, matrix_of}
-use Rattle.section.specs.declared.kind.Kind.{Kind}
-use Rattle.section.specs.declared.kind.Kind.TheVariants.{Head, Curvature, Rows, Costs, Bounds, Limits, Slip}
+use Rattle.block.specs.declared.kind.Kind.{Kind}
+use Rattle.block.specs.declared.kind.Kind.TheVariants.{Head, Curvature, Rows, Costs, Bounds, Limits, Slip}
 use Rattle.section.specs.Layout.{blocks_in}
 use Rattle.reading.specs.Plain.{listed}
 use Rattle.card.specs.Cards.{card_of}

@@ -1,7 +1,7 @@
 -- The job that a card holds.
 use Rattle.std.specs.Prelude.{ℕ, ◌/◌, Bool, cond, List, length, take, drop, ℤ, Ok, Err, vec_items, Result}
 use Rattle.block.specs.Checks.{Verdict}
-use Rattle.section.specs.declared.kind.Kind.TheVariants.{Costs, Bounds, Limits, Slip}
+use Rattle.block.specs.declared.kind.Kind.TheVariants.{Costs, Bounds, Limits, Slip}
 use Rattle.section.specs.Numbers.{numbers_in}
 use Rattle.table.specs.Grid.{Grid}
 use Rattle.card.specs.Faults.{n_of, m_of, card_check}

@@ -1,6 +1,6 @@
 //! A job written as a card.
 ghost use Rattle.std.specs.Prelude.{◌≡◌, Bool, length, IfOk, OnOk};
-ghost use Rattle.section.specs.declared.kind.Kind.{Kind as Sort};
+ghost use Rattle.block.specs.declared.kind.Kind.{Kind as Sort};
 ghost use Rattle.table.specs.Grid.{height_of};
 ghost use Rattle.card.specs.Contents.{numbers};
 ghost use Rattle.opening.specs.Fits.{Fits};

@@ -1,7 +1,7 @@
 use Rattle.std.proofs.Common.{◌≡◌, ℕ, List, [], ◌∷◌, drop, get_or, sym, refl, ap, ◌∙◌, subst, arith}
 use Rattle.block.specs.Blocks.{Fit}
-use Rattle.section.specs.declared.kind.Kind.{Kind}
-use Rattle.section.specs.declared.kind.Kind.TheVariants.{Head, Curvature, Rows, Costs, Bounds, Limits, Slip}
+use Rattle.block.specs.declared.kind.Kind.{Kind}
+use Rattle.block.specs.declared.kind.Kind.TheVariants.{Head, Curvature, Rows, Costs, Bounds, Limits, Slip}
 use Rattle.card.specs.Contents.{numbers}
 use Rattle.card.proofs.Filling.{all_counted, all_written, fits_on, head_as, parts_into, parts_more, section_as, sizes_as}
 use Rattle.card.proofs.writes.write_all.Goals as goal

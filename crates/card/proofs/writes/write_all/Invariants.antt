@@ -1,6 +1,6 @@
 use Rattle.std.proofs.Common.{◌≡◌, ℕ, ◌<◌, drop, get_or}
 use Rattle.block.specs.Blocks.{Fit}
-use Rattle.section.specs.declared.kind.Kind.TheVariants.{Head}
+use Rattle.block.specs.declared.kind.Kind.TheVariants.{Head}
 use Rattle.card.specs.Contents.{part_of}
 use Rattle.card.proofs.Filling.{parts_into}
 use Rattle.card.proofs.writes.write_all.Given as goal

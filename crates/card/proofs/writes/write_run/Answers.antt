@@ -1,7 +1,10 @@
-use Rattle.std.proofs.Common.{◌≡◌, ℕ, ◌+◌, ◌*◌, ◌<◌, ◌++◌, List, length, take, drop, ℤ, sym, ap, ◌∙◌, subst, arith}
+use Rattle.std.proofs.Common.{◌≡◌, ℕ, ◌+◌, ◌*◌, ◌<◌, ◌≤◌, Bool, true, cond, leb, ◌++◌, List, length, take, drop, ℤ, sym, ap, ◌∙◌, subst, arith}
 use Rattle.std.proofs.lemmas.List.{drop-drop, length-drop}
+use Rattle.std.proofs.lemmas.Bool.{le-leb}
 use Rattle.std.specs.Slice.Iter.{chunks_rest}
+use Rattle.block.specs.Kinds.{letter_of}
 use Rattle.block.specs.Blocks.{block_of, Fit}
+use Rattle.block.specs.Writes.{put_block}
 use Rattle.card.proofs.Laying.{part_is, run_more, fits_more}
 use Rattle.card.proofs.writes.write_run.Goals as goal
 
@@ -17,14 +20,23 @@ loop-b-preserved c =
     let cut = part_is part rest (omega (arith, step.0.1.1, kept.size, ap length step.0.1.0)) in
     let first : take 126 part ≡ take 126 (drop (b * 126) nums) = cut.0 ∙ ap (take 126) xs in
     let next : b * 126 + 126 ≡ (b + 1) * 126 = omega arith in
-    rw (step.1, step.2) (record {
-      laid =
-          run_more c.args.out.now c.loop-b.out c.copy_from_slice.new.self c.make-block.result.bytes c.args.letter c.args.first b _ nums
-          kept.laid (omega arith) (omega arith) (c.copy_from_slice.ensures.after ∙ c.bytes.ensures.value)
-          (c.make-block.ensures.value
-          ∙ ap (λ (j : ℕ). block_of c.args.letter (c.args.first + j) (take 126 part)) step.1 ∙ ap (λ xs. block_of c.args.letter (c.args.first + b) xs) first);
-      fits = fits_more nums b kept.fits (subst Fit first c.make-block.ensures.fits);
-      few = let more : b * 126 < length nums = omega (arith, step.0.1.2, ap length kept.rest, length-drop (b * 126) nums) in omega (arith, more);
+    let out : List ℕ = c.loop-b.out in
+    let more : b * 126 < length nums = omega (arith, step.0.1.2, ap length kept.rest, length-drop (b * 126) nums) in
+    let room : (c.args.first + b) * 512 + 512 ≤ length out = omega (arith, more, c.loop-b.auto.out, c.requires.0) in
+    let has : c.write_block.result ≡ true
+    = c.write_block.ensures.has ∙ (ap (λ (k : ℕ). leb ((c.args.first + k) * 512 + 512) (length out)) step.1 ∙ le-leb ((c.args.first + b) * 512 + 512) (length out) room) in
+    let put : c.write_block.new.card ≡ put_block out (c.args.first + b) (block_of (letter_of c.args.kind) (c.args.first + b) (take 126 (drop (b * 126) nums)))
+    = c.write_block.ensures.value
+    ∙ (ap (λ (t : Bool). cond t (put_block out (c.args.first + c.in-Some.b) (block_of (letter_of c.args.kind) (c.args.first + c.in-Some.b) (take 126 part))) out) has
+    ∙ (ap (λ (j : ℕ). put_block out (c.args.first + j) (block_of (letter_of c.args.kind) (c.args.first + j) (take 126 part))) step.1
+    ∙ ap (λ (xs : List ℤ). put_block out (c.args.first + b) (block_of (letter_of c.args.kind) (c.args.first + b) xs)) first)) in
+    let lie : c.args.first * 512 ≤ length c.args.out.now = omega arith in
+    let after = put ∙ run_more c.args.out.now out (letter_of c.args.kind) c.args.first b nums kept.laid lie in
+    let fit = fits_more nums b kept.fits (subst Fit first (c.write_block.ensures.fits has)) in
+    rw (step.2) (record {
+      laid = after;
+      fits = fit;
+      few = omega (arith, more);
       size = step.0.0 ∙ kept.size;
       rest = cut.1 ∙ (ap (drop 126) xs ∙ (drop-drop 126 (b * 126) nums ∙ ap (λ k. drop k nums) next));
     })

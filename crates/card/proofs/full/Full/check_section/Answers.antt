@@ -1,4 +1,5 @@
 use Rattle.std.proofs.Common.{ap, ◌∙◌}
+use Rattle.block.specs.Kinds.{letter_of}
 use Rattle.section.specs.Layout.{blocks_for, first_of, count_of}
 use Rattle.card.specs.Faults.{section_check, run_check}
 use Rattle.card.proofs.full.Full.check_section.Goals as goal
@@ -11,6 +12,5 @@ returns c =
     let m = c.args.self.now.sizes.rows in
     let kind = c.args.kind in
     c.check_run.ensures
-    ∙ (ap (λ f. run_check card c.letter.result f c.count.result (blocks_for c.count.result)) c.first-first.ensures.value
-    ∙ (ap (λ k. run_check card c.letter.result (first_of kind n m) k (blocks_for k)) c.count.ensures.value
-    ∙ ap (λ l. run_check card l (first_of kind n m) (count_of kind n m) (blocks_for (count_of kind n m))) c.letter.ensures))
+    ∙ (ap (λ f. run_check card (letter_of kind) f c.count.result (blocks_for c.count.result)) c.first-first.ensures.value
+    ∙ ap (λ k. run_check card (letter_of kind) (first_of kind n m) k (blocks_for k)) c.count.ensures.value)

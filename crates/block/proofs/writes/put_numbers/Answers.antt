@@ -3,7 +3,7 @@ use lib.Seq.{paste}
 use Rattle.std.proofs.lemmas.Int.{to_z-of_z}
 use Rattle.block.specs.Bytes.{bytes4}
 use Rattle.block.proofs.Laying.{numbers_more}
-use Rattle.block.proofs.block.Block.put_numbers.Goals as goal
+use Rattle.block.proofs.writes.put_numbers.Goals as goal
 
 pub loop-j-preserved : goal.loop-j-preserved
 loop-j-preserved c =
@@ -12,8 +12,8 @@ loop-j-preserved c =
     let same : c.to_le_bytes.result ≡ bytes4 z = c.to_le_bytes.ensures ∙ ap bytes4 (to_z-of_z w32 z fits) in
     let at = 4 + c.loop-j.j * 4 in (
       c.put.ensures
-          ∙ (ap (λ b. paste c.loop-j.self.bytes at b (length b)) same
+          ∙ (ap (λ b. paste c.loop-j.bytes at b (length b)) same
           ∙ (ap (λ o. paste o at (bytes4 z) 4) c.loop-j.invariant.0
-          ∙ numbers_more c.args.self.now.bytes c.args.numbers.now c.loop-j.j (omega arith) (omega arith) (omega arith))),
+          ∙ numbers_more c.args.bytes.now c.args.numbers.now c.loop-j.j (omega arith) (omega arith) (omega arith))),
       below_more (λ k. SFits w32 (get_or c.args.numbers.now k (pos 0))) c.loop-j.j c.loop-j.invariant.1 fits,
     )

@@ -1,5 +1,5 @@
 ghost use Rattle.std.specs.Prelude.{◌≡◌, ok_or};
-ghost use Rattle.section.specs.Kinds.{letter_of, kind_of, Names};
+ghost use Rattle.block.specs.Kinds.{letter_of, kind_of, Names};
 
 use crate::kind::Kind;
 

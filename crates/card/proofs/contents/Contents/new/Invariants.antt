@@ -1,8 +1,8 @@
 use Rattle.std.proofs.Common.{◌≡◌, ℕ, ◌<◌, length, get_or}
-use Rattle.section.specs.declared.kind.Kind.TheVariants.{Head}
+use Rattle.block.specs.declared.kind.Kind.TheVariants.{Head}
 use Rattle.section.specs.Layout.{numbers_for}
 use Rattle.card.specs.Contents.{part_of}
-use Rattle.card.proofs.contents.Contents.of.Given as goal
+use Rattle.card.proofs.contents.Contents.new.Given as goal
 
 -- the sections so far have as many numbers as they should
 abbrev pub invariant-loop-kind : goal.invariant-loop-kind
