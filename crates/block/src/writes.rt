@@ -56,6 +56,11 @@ pub fn write_block(card: &mut [u8], kind: Kind, number: u16, numbers: &[i32]) ->
         return false;
     }
     let count = numbers.len().min(Block::NUMBERS);
-    fill_block(&mut card[at..at + Block::BYTES], kind, number, &numbers[..count]);
+    fill_block(
+        &mut card[at..at + Block::BYTES],
+        kind,
+        number,
+        &numbers[..count],
+    );
     true
 }

@@ -1,17 +1,16 @@
 -- On a card that passes, each section that has numbers is found at its first block.
-use Rattle.std.proofs.Common.{◌≡◌, ℕ, ◌+◌, ◌*◌, ◌<◌, ◌≤◌, Bool, true, cond, leb, List, length, get_or, Some, None, Ok, Option, sym, refl, ap, ◌∙◌, subst, arith}
+use Rattle.std.proofs.Common.{◌≡◌, ℕ, ◌+◌, ◌*◌, ◌<◌, ◌≤◌, Bool, cond, List, length, get_or, Some, None, Ok, sym, refl, ap, ◌∙◌, subst, arith}
 use Rattle.std.specs.Option.{option_map}
 use Rattle.std.proofs.lemmas.Bool.{le-leb}
-use Rattle.block.specs.Blocks.{block_at}
 use Rattle.block.specs.Kinds.{letter_of, kind_of}
 use Rattle.block.specs.declared.kind.Kind.{Kind}
 use Rattle.block.specs.declared.kind.Kind.TheVariants.{Head, Curvature, Rows, Costs, Bounds, Limits, Slip}
 use Rattle.block.proofs.WholeAt.{block_byte}
-use Rattle.section.specs.Layout.{blocks_for, count_of, first_of, blocks_in, HasBlock}
-use Rattle.section.specs.Sections.{Part, kind_at, part_at, section_at}
+use Rattle.section.specs.Layout.{count_of, first_of, blocks_in, HasBlock}
+use Rattle.section.specs.Sections.{part_at, section_at}
 use Rattle.section.proofs.Spots.{ends, located_at}
 use Rattle.card.specs.Faults.{n_of, m_of, card_check}
-use Rattle.card.specs.Faulty.{Says, Full}
+use Rattle.card.specs.Faulty.{Says}
 use Rattle.card.specs.Held.{HoldsNumbers}
 use Rattle.card.proofs.Saying.{card_says}
 

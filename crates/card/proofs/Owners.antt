@@ -1,9 +1,9 @@
 -- Which section has a block: one, and no other.
-use Rattle.std.proofs.Common.{◌≡◌, ℕ, ◌+◌, ◌*◌, ◌<◌, ◌≤◌, true, false, cond, leb, sym, refl, ap, ◌∙◌, ⊎_elim, arith}
+use Rattle.std.proofs.Common.{◌≡◌, ℕ, ◌<◌, ◌≤◌, true, false, cond, leb, sym, refl, ◌∙◌, ⊎_elim, arith}
 use Rattle.std.proofs.lemmas.Bool.{cases_lt, le-leb, lt-leb}
 use Rattle.block.specs.declared.kind.Kind.{Kind}
 use Rattle.block.specs.declared.kind.Kind.TheVariants.{Head, Curvature, Rows, Costs, Bounds, Limits, Slip}
-use Rattle.section.specs.Layout.{blocks_for, count_of, first_of, blocks_in, HasBlock}
+use Rattle.section.specs.Layout.{first_of, blocks_in, HasBlock}
 
 module _ (n m b : ℕ) where
   -- the last section that starts at block b or before it

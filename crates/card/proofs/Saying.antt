@@ -1,23 +1,23 @@
 -- What the check of a card answers is so, and what is so is answered.
-use Rattle.std.proofs.Common.{◌≡◌, ℕ, ◌+◌, ◌*◌, ◌/◌, ◌%◌, ◌<◌, ◌≤◌, Bool, true, false, cond, ◌&&◌, eqb, leb, List, length, get_or, take, drop, ℤ, pos, negsuc, nat_abs, Ok, Err, inl, inr, sym, refl, ap, ◌∙◌, subst, ⊎_elim, arith}
+use Rattle.std.proofs.Common.{◌≡◌, ℕ, ◌+◌, ◌*◌, ◌/◌, ◌%◌, ◌<◌, ◌≤◌, Bool, true, false, cond, ◌&&◌, eqb, leb, List, length, get_or, ℤ, pos, Ok, Err, inl, inr, sym, refl, ap, ◌∙◌, subst, ⊎_elim, arith}
 use lib.Signed.{le_z}
 use Rattle.std.proofs.lemmas.List.{length-take, length-drop}
-use Rattle.std.proofs.lemmas.Bool.{cases_lt, eqb-true, eqb-false, eq-eqb, leb-true, leb-false, le-leb, and_parts, and_from, false≢true}
+use Rattle.std.proofs.lemmas.Bool.{cases_lt, eqb-true, eqb-false, eq-eqb, leb-true, le-leb, and_parts, and_from, false≢true}
 use Rattle.block.specs.declared.fault.Fault.{Fault}
 use Rattle.block.specs.declared.kind.Kind.{Kind}
 use Rattle.block.specs.declared.kind.Kind.TheVariants.{Head}
 use Rattle.block.specs.Bytes.{le16, num}
 use Rattle.block.specs.Blocks.{block_at, check_of}
-use Rattle.block.specs.Checks.{Verdict, and_then, sum_check, name_check, spare_check, block_check}
+use Rattle.block.specs.Checks.{Verdict, and_then, sum_check, name_check, spare_check}
 use Rattle.block.specs.Kinds.{letter_of}
 use Rattle.block.specs.Laws.{Summed, Named, Clean, FirstSet, Rightly}
 use Rattle.block.specs.Laws as one
 use Rattle.block.proofs.Saying.{says, said, summed, missummed, named, misnamed, differ}
-use Rattle.section.specs.Layout.{InRange, blocks_for, count_of, first_of, blocks_in, HasBlock, used_in}
-use Rattle.card.specs.Faults.{n_of, m_of, in_size, size_check, head_check, length_check, full_check, sections_check, card_check}
+use Rattle.section.specs.Layout.{blocks_in, HasBlock, used_in}
+use Rattle.card.specs.Faults.{n_of, m_of, in_size, size_check, head_check, full_check, sections_check, card_check}
 use Rattle.card.specs.Faulty.{Whole, Full, Sizable, NamedAt, CleanAt, FirstSetAt, BlockPasses, Reached, Says}
 use Rattle.card.proofs.Owners.{same_kind, has_kind}
-use Rattle.card.proofs.Spans.{checked_as, AllPass, Stops, Span, span_sections, all_pass, stops_there}
+use Rattle.card.proofs.Spans.{checked_as, AllPass, Span, span_sections, all_pass, stops_there}
 use Rattle.card.proofs.Whole.{size_is}
 use Rattle.card.proofs.Passing.{sizes_pass}
 
@@ -226,15 +226,18 @@ module _ (card : List ℕ) where
   from_full = and_then (full_check (length card) (n_of card) (m_of card)) (sections_check card (n_of card) (m_of card))
 
   sections_say : Whole card → BlockPasses card 0 → Full card → (v : Verdict) → Span card (n_of card) (m_of card) 1 (blocks_in (n_of card) (m_of card)) v → Says card v
-  sections_say w head full (Ok u) all =
-      (w, full, λ b there.
-      let room = fits_in b full there in
-      ⊎_elim
-      (λ (first : b < 1). let zero : 0 ≡ b = omega arith in subst (BlockPasses card) zero head)
-      (λ (some : 1 ≤ b).
-      let k = has_kind (n_of card) (m_of card) b some room.0 in
-      block_passes b room.1 k.0 k.1 (λ e. absurd (omega arith)) (all k.0 b k.1 some room.0))
-      (cases_lt b 1))
+  sections_say w head full (Ok u) all = (
+    w,
+    full,
+    λ b there.
+        let room = fits_in b full there in
+        ⊎_elim
+        (λ (first : b < 1). let zero : 0 ≡ b = omega arith in subst (BlockPasses card) zero head)
+        (λ (some : 1 ≤ b).
+        let k = has_kind (n_of card) (m_of card) b some room.0 in
+        block_passes b room.1 k.0 k.1 (λ e. absurd (omega arith)) (all k.0 b k.1 some room.0))
+        (cases_lt b 1),
+  )
   sections_say w head full (Err f) s =
       let to : s.at < blocks_in (n_of card) (m_of card) = s.to in
       let from : 1 ≤ s.at = s.from in

@@ -1,4 +1,4 @@
-use Rattle.std.proofs.Common.{◌≡◌, ℕ, List, [], ◌∷◌, length, replicate, refl, ap, ◌∙◌, rules}
+use Rattle.std.proofs.Common.{◌≡◌, ℕ, List, [], ◌∷◌, replicate, refl, ap, ◌∙◌, rules}
 use lib.Seq.{paste}
 use Rattle.block.specs.Kinds.{letter_of}
 use Rattle.block.proofs.Laying.{all_written}

@@ -1,4 +1,4 @@
-use Rattle.std.proofs.Common.{Err, arith, rules}
+use Rattle.std.proofs.Common.{arith, rules}
 use Rattle.block.specs.Kinds.{letter_of}
 use Rattle.block.proofs.RoundTrip.{exact_at, inexact_at}
 use Rattle.block.proofs.Saying.{rightly}

@@ -1,6 +1,6 @@
 use Rattle.std.proofs.Common.{ap, ◌∙◌}
 use Rattle.block.specs.Kinds.{letter_of}
-use Rattle.section.specs.Layout.{blocks_for, first_of, count_of}
+use Rattle.section.specs.Layout.{blocks_for, first_of}
 use Rattle.card.specs.Faults.{section_check, run_check}
 use Rattle.card.proofs.full.Full.check_section.Goals as goal
 
