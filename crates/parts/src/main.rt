@@ -143,13 +143,9 @@ fn open_flat(rt: &HostRuntime, name: &str, slip: &[i64]) -> io::Result<()> {
 }
 
 /// The terms of the two-rope job with other limits of its row.
-fn two_rope_terms(heap: Global, lo: i64, hi: i64) -> anyhow::Result<Terms> {
-    let c = Vec::from_slice(heap, LISTS.c)?;
-    let l = Vec::from_slice(heap, LISTS.l)?;
-    let u = Vec::from_slice(heap, LISTS.u)?;
-    let low = Vec::from_slice(heap, &[lo])?;
-    let high = Vec::from_slice(heap, &[hi])?;
-    Terms::new(c, l, u, low, high).ok_or_else(|| anyhow!("the two-rope job has other terms"))
+fn two_rope_terms(lo: i64, hi: i64) -> anyhow::Result<Terms> {
+    let terms = Terms::new(LISTS.c, LISTS.l, LISTS.u, &[lo], &[hi]);
+    terms.ok_or_else(|| anyhow!("the two-rope job has other terms"))
 }
 
 fn print_floor(rt: &HostRuntime, card: &[u8], terms: &Terms, pair: Pair) -> io::Result<()> {
@@ -186,7 +182,6 @@ fn print_point(rt: &HostRuntime, card: &[u8], terms: &Terms, z: &[i64]) -> io::R
 
 /// The two-rope job: what its points cost, what its pairs show, and what refutes it once its row is amended.
 fn evaluations(rt: &HostRuntime, card: &[u8]) -> anyhow::Result<()> {
-    let heap = rt.alloc();
     let zeros = Pair {
         point: &[0, 0],
         multipliers: &[0],
@@ -195,14 +190,14 @@ fn evaluations(rt: &HostRuntime, card: &[u8]) -> anyhow::Result<()> {
         point: &[1, 2],
         multipliers: &[-512],
     };
-    let terms = two_rope_terms(heap, 0, 3)?;
+    let terms = two_rope_terms(0, 3)?;
     print_floor(rt, card, &terms, zeros)?;
     print_point(rt, card, &terms, &[1, 2])?;
     print_point(rt, card, &terms, &[2, 2])?;
     print_floor(rt, card, &terms, best)?;
-    print_floor(rt, card, &two_rope_terms(heap, 0, 2)?, best)?;
-    print_refutes(rt, card, &two_rope_terms(heap, 21, 30)?)?;
-    print_refutes(rt, card, &two_rope_terms(heap, 20, 30)?)?;
+    print_floor(rt, card, &two_rope_terms(0, 2)?, best)?;
+    print_refutes(rt, card, &two_rope_terms(21, 30)?)?;
+    print_refutes(rt, card, &two_rope_terms(20, 30)?)?;
     Ok(())
 }
 
