@@ -10,3 +10,4 @@ pub mod Stepping
 pub mod Running
 pub mod Offering
 pub mod Lawful
+pub mod Writing

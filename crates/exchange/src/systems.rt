@@ -1,30 +1,42 @@
 //! The system of linear equations that belongs to a working set.
-ghost use Rattle.std.specs.Prelude.{◌≡◌, ℕ, ◌+◌, ◌<◌, ◌≤◌, length, take, neg_ℤ, unsigned_abs};
+ghost use Rattle.std.specs.Prelude.{◌≡◌, ℕ, ◌+◌, ◌<◌, ◌≤◌, map, length, take, neg_ℤ, unsigned_abs};
+ghost use Rattle.std.specs.Float.{binary64};
+ghost use Rattle.std.specs.Float.Ieee.{of_int};
+ghost use Rattle.std.specs.List.{range_with_len};
+ghost use Rattle.duality.specs.Lists.{places};
 ghost use Rattle.job.specs.Numbers.{problem_of};
 ghost use Rattle.elimination.specs.Lines.{seen};
 ghost use Rattle.exchange.specs.Members.{Of, weight as weight_of, held_at};
-ghost use Rattle.exchange.specs.Systems.{size_of, rope_entry, member_entry, entry as entry_of, line_of, system_of};
+ghost use Rattle.exchange.specs.Systems.{size_of, rope_line, member_line, floats, system_of};
 
 use crate::members::{Limit, Member, Side};
 use crate::working::WorkingSet;
 use elimination::{LINE_PLACES, MOST_UNKNOWNS};
 use job::Job;
 
-fn negated(x: i64) -> i64
+/// By way of 32 bits, which a processor makes a float in one instruction.
+fn float(x: i64) -> f64
     requires { unsigned_abs x ≤ 536870912 }
-    ensures value { result ≡ neg_ℤ x }
-    ensures small { unsigned_abs result ≤ 536870912 }
+    ensures { result ≡ of_int binary64 x }
 {
-    -x
+    f64::from(x as i32)
 }
 
-fn curve(job: &Job, r: usize, k: usize) -> i64
-    requires row { r < (problem_of job.now).ropes }
-    requires column { k < (problem_of job.now).ropes }
-    ensures value { result ≡ (problem_of job.now).G r k }
-    ensures small { unsigned_abs result ≤ 536870912 }
+fn minus(x: i64) -> f64
+    requires { unsigned_abs x ≤ 536870912 }
+    ensures { result ≡ of_int binary64 (neg_ℤ x) }
 {
-    job.g[r * job.ropes() + k]
+    f64::from(-x as i32)
+}
+
+fn write(line: &mut [f64], xs: &[i64])
+    requires same { length line.old ≡ length xs.now }
+    requires small { (k : ℕ) → k < length xs.now → unsigned_abs (places xs.now k) ≤ 536870912 }
+    ensures { line.new ≡ floats xs.now }
+{
+    for (k, x) in line.iter_mut().enumerate() {
+        *x = float(xs[k]);
+    }
 }
 
 fn price(job: &Job, r: usize) -> i64
@@ -79,66 +91,71 @@ impl WorkingSet<'_> {
         self.job.ropes() + self.members.len()
     }
 
-    fn rope_entry(&self, r: usize, k: usize) -> i64
-        requires { r < (problem_of self.now.job.now).ropes }
-        ensures value { result ≡ rope_entry (problem_of self.now.job.now) self.now.members.now r k }
-        ensures small { unsigned_abs result ≤ 536870912 }
-    {
-        let ropes = self.job.ropes();
-        if k < ropes {
-            curve(self.job, r, k)
-        } else if k < ropes + self.members.len() {
-            negated(weight(self.job, self.members[k - ropes].limit, r))
-        } else {
-            negated(price(self.job, r))
-        }
-    }
-
-    fn member_entry(&self, member: Member, k: usize) -> i64
-        requires { Of (problem_of self.now.job.now).ropes (problem_of self.now.job.now).rows member.limit }
-        ensures value { result ≡ member_entry (problem_of self.now.job.now) self.now.members.now member k }
-        ensures small { unsigned_abs result ≤ 536870912 }
-    {
-        let ropes = self.job.ropes();
-        if k < ropes {
-            weight(self.job, member.limit, k)
-        } else if k < ropes + self.members.len() {
-            0
-        } else {
-            held_at(self.job, member)
-        }
-    }
-
-    fn entry(&self, r: usize, k: usize) -> i64
-        requires { r < (problem_of self.now.job.now).ropes + length self.now.members.now }
-        ensures value { result ≡ entry_of (problem_of self.now.job.now) self.now.members.now r k }
-        ensures small { unsigned_abs result ≤ 536870912 }
-    {
-        let ropes = self.job.ropes();
-        if r < ropes {
-            self.rope_entry(r, k)
-        } else {
-            self.member_entry(self.members[r - ropes], k)
-        }
-    }
-
-    fn fill_line(&self, line: &mut [f64], r: usize)
-        requires { r < (problem_of self.now.job.now).ropes + length self.now.members.now }
-        ensures { line.new ≡ line_of (problem_of self.now.job.now) self.now.members.now (length line.old) r }
+    /// The weight of each member at rope r, turned round.
+    fn write_pushes(&self, line: &mut [f64], r: usize)
+        requires rope { r < (problem_of self.now.job.now).ropes }
+        requires all { length line.old ≡ length self.now.members.now }
+        ensures { line.new ≡ floats (map (λ w. neg_ℤ (weight_of (problem_of self.now.job.now) w.limit r)) self.now.members.now) }
     {
         for (k, x) in line.iter_mut().enumerate() {
-            // By way of 32 bits, which a processor makes a float in one instruction.
-            *x = f64::from(self.entry(r, k) as i32);
+            *x = minus(weight(self.job, self.members[k].limit, r));
         }
     }
 
-    fn fill_lines(&self, lines: &mut [[f64; LINE_PLACES]])
-        requires { length lines.old ≡ (problem_of self.now.job.now).ropes + length self.now.members.now }
-        ensures { seen (length lines.old + 1) lines.new ≡ system_of (problem_of self.now.job.now) self.now.members.now }
+    fn write_rope_line(&self, line: &mut [f64], r: usize)
+        requires rope { r < (problem_of self.now.job.now).ropes }
+        requires all { length line.old ≡ size_of (problem_of self.now.job.now) self.now.members.now + 1 }
+        ensures { line.new ≡ floats (rope_line (problem_of self.now.job.now) self.now.members.now r) }
     {
-        let width = lines.len() + 1;
+        let ropes = self.job.ropes();
+        let (coefficients, rest) = line.split_at_mut(ropes);
+        let (pushes, right) = rest.split_at_mut(self.members.len());
+        write(coefficients, &self.job.g[r * ropes..(r + 1) * ropes]);
+        self.write_pushes(pushes, r);
+        right[0] = minus(price(self.job, r));
+    }
+
+    fn write_weights(&self, line: &mut [f64], limit: Limit)
+        requires limit { Of (problem_of self.now.job.now).ropes (problem_of self.now.job.now).rows limit }
+        requires all { length line.old ≡ (problem_of self.now.job.now).ropes }
+        ensures { line.new ≡ floats (map (weight_of (problem_of self.now.job.now) limit) (range_with_len 0 (problem_of self.now.job.now).ropes)) }
+    {
+        for (j, x) in line.iter_mut().enumerate() {
+            *x = float(weight(self.job, limit, j));
+        }
+    }
+
+    fn write_member_line(&self, line: &mut [f64], member: Member)
+        requires limit { Of (problem_of self.now.job.now).ropes (problem_of self.now.job.now).rows member.limit }
+        requires all { length line.old ≡ size_of (problem_of self.now.job.now) self.now.members.now + 1 }
+        ensures { line.new ≡ floats (member_line (problem_of self.now.job.now) self.now.members.now member) }
+    {
+        let (weights, rest) = line.split_at_mut(self.job.ropes());
+        let (zeros, right) = rest.split_at_mut(self.members.len());
+        self.write_weights(weights, member.limit);
+        zeros.fill(0.0);
+        right[0] = float(held_at(self.job, member));
+    }
+
+    fn write_rope_lines(&self, lines: &mut [[f64; LINE_PLACES]])
+        requires { length lines.old ≡ (problem_of self.now.job.now).ropes }
+        ensures { seen (size_of (problem_of self.now.job.now) self.now.members.now + 1) lines.new
+            ≡ map (λ r. floats (rope_line (problem_of self.now.job.now) self.now.members.now r)) (range_with_len 0 (problem_of self.now.job.now).ropes) }
+    {
+        let width = self.size() + 1;
         for (r, line) in lines.iter_mut().enumerate() {
-            self.fill_line(&mut line[0..width], r);
+            self.write_rope_line(&mut line[0..width], r);
+        }
+    }
+
+    fn write_member_lines(&self, lines: &mut [[f64; LINE_PLACES]])
+        requires { length lines.old ≡ length self.now.members.now }
+        ensures { seen (size_of (problem_of self.now.job.now) self.now.members.now + 1) lines.new
+            ≡ map (λ w. floats (member_line (problem_of self.now.job.now) self.now.members.now w)) self.now.members.now }
+    {
+        let width = self.size() + 1;
+        for (k, line) in lines.iter_mut().enumerate() {
+            self.write_member_line(&mut line[0..width], self.members[k]);
         }
     }
 
@@ -148,6 +165,8 @@ impl WorkingSet<'_> {
             (take (size_of (problem_of self.now.job.now) self.now.members.now) lines.new)
             ≡ system_of (problem_of self.now.job.now) self.now.members.now }
     {
-        self.fill_lines(&mut lines[..self.size()]);
+        let (ropes, rest) = lines.split_at_mut(self.job.ropes());
+        self.write_rope_lines(ropes);
+        self.write_member_lines(&mut rest[..self.members.len()]);
     }
 }
