@@ -1,10 +1,8 @@
 -- Loops that fold, and searches through members.
-use Rattle.std.proofs.Common.{◌≡◌, ℕ, ◌+◌, ◌-◌, ◌<◌, ◌≤◌, true, false, ◌||◌, List, [], ◌∷◌, length, get_or, drop, ℤ, pos, sym, refl, ap, ◌∙◌, ◌⊎◌, inl, inr, add-one, arith}
+use Rattle.std.proofs.Common.{◌≡◌, ℕ, ◌+◌, ◌<◌, ◌≤◌, true, false, ◌||◌, List, [], ◌∷◌, length, get_or, drop, ℤ, pos, sym, refl, ap, ◌∙◌, ◌⊎◌, inl, inr, add-one, arith}
 use Rattle.std.proofs.Math.Nat.{add-zero}
-use Rattle.std.proofs.lemmas.List.{get_or_default, get_or-drop, drop-drop, length-drop}
+use Rattle.std.proofs.lemmas.List.{get_or-drop, drop-drop, length-drop}
 use Rattle.std.specs.List.{list_any}
-use Rattle.exchange.specs.Members.{blank}
-use Rattle.exchange.specs.Systems.{member_at}
 use Rattle.exchange.specs.Breaches.{same, holds, upto}
 use Rattle.exchange.specs.Offers.{pressure_of, inside_limit}
 use Rattle.exchange.specs.declared.members.Limit.{Limit}
@@ -29,10 +27,6 @@ pressure_none [] ys v h = refl
 pressure_none (m ∷ ms) [] v h = refl
 pressure_none (m ∷ ms) (y ∷ ys) v (inl e) = cc
 pressure_none (m ∷ ms) (y ∷ ys) v (inr e) = cc
-
--- a member that the code reads past n ropes
-pub member_read : (ms : List Member) (k n m : ℕ) (d : Member) → n ≡ m → k - n < length ms → get_or ms (k - n) d ≡ member_at ms (k - m)
-member_read ms k n m d e l = get_or_default ms (k - n) d blank l ∙ ap (λ (i : ℕ). member_at ms (k - i)) e
 
 -- what is left of a list, one step on and at the end
 module _ {X : Type 0} (xs ys us : List X) (x : X) (k : ℕ) (e : ys ≡ drop k xs) (f : ys ≡ x ∷ us) where
