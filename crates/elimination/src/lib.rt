@@ -11,7 +11,7 @@ mod squares;
 mod systems;
 mod unknowns;
 
-pub use pivots::LARGEST;
+pub use pivots::{LARGEST, Pivot};
 pub use rounding::nearest;
 pub use squares::{LINE_PLACES, MOST_UNKNOWNS};
 pub use systems::{Solution, solve};

@@ -11,10 +11,11 @@ const SMALLEST: f64 = 0.00000095367431640625;
 /// A pivot's size lies strictly below this, 2^60.
 pub const LARGEST: f64 = 1152921504606846976.0;
 
+/// The pivot of a column: the place of its line, and its size.
 #[derive(Clone, Copy)]
-pub(crate) struct Pivot {
-    pub(crate) place: usize,
-    pub(crate) size: f64,
+pub struct Pivot {
+    pub place: usize,
+    pub size: f64,
 }
 
 impl Pivot {

@@ -3,14 +3,19 @@ use Rattle.std.proofs.Common.{◌≡◌, ℕ, zero, suc, ◌≤◌, List, [], �
 use lib.Ieee.{Float}
 use Rattle.std.proofs.lemmas.List.Edits.{length-remove}
 use Rattle.std.proofs.lemmas.List.{length-append}
-use Rattle.std.specs.List.{flat_map}
+use Rattle.std.specs.List.{flat_map, All}
+use Rattle.std.specs.Float.{NotNan}
+use Rattle.std.proofs.lemmas.List.Elements.{All-append}
 use Rattle.duality.specs.Problem.{Problem}
 use Rattle.job.specs.Numbers.{problem_of}
 use Rattle.job.specs.declared.numbers.Job.{Job}
 use Rattle.elimination.specs.Lines.{largest}
-use Rattle.exchange.specs.Steps.{solved_at, step_at, members_after, StepMeans}
+use Rattle.elimination.specs.Runs.{Least, Takable, sizes}
+use Rattle.elimination.specs.declared.pivots.Pivot.{Pivot}
+use Rattle.exchange.specs.Systems.{system_of}
+use Rattle.exchange.specs.Steps.{solved_at, step_at, members_after, StepMeans, LawfulStep}
 use Rattle.exchange.specs.Runs.{Run, over, stepped, offers_of, end_after, after_step, run_from, exchanged, report_of}
-use Rattle.exchange.specs.Laws.{Follow, last_end, EndsAs, LawfulRun, AloneRun}
+use Rattle.exchange.specs.Laws.{Turn, Follow, last_end, EndsAs, taken, Told, LawfulRun, AloneRun}
 use Rattle.exchange.specs.declared.members.Member.{Member}
 use Rattle.exchange.specs.declared.members.Report.{Report}
 use Rattle.exchange.specs.declared.members.Choice.TheVariants.{Enter, Leave, Full, Done}
@@ -19,27 +24,29 @@ use Rattle.exchange.specs.declared.members.Step.TheVariants.{Stuck, Found}
 use Rattle.exchange.specs.declared.members.End.{End}
 use Rattle.exchange.specs.declared.members.End.TheVariants as end
 use Rattle.exchange.proofs.Meanings.{Ordered, job_ordered}
-use Rattle.exchange.proofs.Stepping.{step_only, same_step}
+use Rattle.exchange.proofs.Stepping.{same_step, step_lawful}
+use Rattle.exchange.proofs.Smallest.{lead_takable, least_alone, least_number, least_on, told, told_same, largest_number}
 
--- what is left of a run from the set ms on, by its steps
-record Taken (P : Problem) (b : ℕ) (ms : List Member) (r : Run) : Type 0 where
-  pub steps : List Step
-  pub follow : Follow P ms steps
-  pub counted : r.steps ≡ length steps
+-- what is left of a run from the set ms on, by its turns
+record Taken (P : Problem) (b : ℕ) (ms : List Member) (s : Float) (r : Run) : Type 0 where
+  pub turns : List Turn
+  pub follow : Follow P ms turns
+  pub counted : r.steps ≡ length turns
   pub within_budget : r.steps ≤ b
-  pub offered : r.offers ≡ flat_map offers_of steps
-  pub ends : EndsAs b steps r.ending
+  pub offered : r.offers ≡ flat_map (λ t. offers_of t.step) turns
+  pub ends : EndsAs b turns r.ending
+  pub smallest : Least (s ∷ taken turns) r.smallest
 
--- a step before others
-last_of : (st : Step) (sts : List Step) → end_after st ≡ None → last_end (st ∷ sts) ≡ last_end sts
-last_of st [] e = e
-last_of st (t ∷ sts) e = refl
+-- a turn before others
+last_of : (t : Turn) (ts : List Turn) → end_after t.step ≡ None → last_end (t ∷ ts) ≡ last_end ts
+last_of t [] e = e
+last_of t (u ∷ ts) e = refl
 
-ends_later : (b : ℕ) (st : Step) (sts : List Step) (x : End) → end_after st ≡ None → EndsAs b sts x → EndsAs (suc b) (st ∷ sts) x
-ends_later b st sts end.Done e h = last_of st sts e ∙ h
-ends_later b st sts end.Full e h = last_of st sts e ∙ h
-ends_later b st sts end.Stuck e h = last_of st sts e ∙ h
-ends_later b st sts end.Spent e h = (last_of st sts e ∙ h.0, ap suc h.1)
+ends_later : (b : ℕ) (t : Turn) (ts : List Turn) (x : End) → end_after t.step ≡ None → EndsAs b ts x → EndsAs (suc b) (t ∷ ts) x
+ends_later b t ts end.Done e h = last_of t ts e ∙ h
+ends_later b t ts end.Full e h = last_of t ts e ∙ h
+ends_later b t ts end.Stuck e h = last_of t ts e ∙ h
+ends_later b t ts end.Spent e h = (last_of t ts e ∙ h.0, ap suc h.1)
 
 -- a step never means that the budget is used
 never_spent : (st : Step) → end_after st ≡ Some end.Spent → ⊥
@@ -49,129 +56,144 @@ never_spent (Found o (Leave k)) e = let z : ◌≡◌ {A = ℕ} 0 1 = cc in omeg
 never_spent (Found o Full) e = let z : ◌≡◌ {A = ℕ} 0 1 = cc in omega arith
 never_spent (Found o Done) e = let z : ◌≡◌ {A = ℕ} 0 1 = cc in omega arith
 
-ends_now : (b : ℕ) (st : Step) (x : End) → end_after st ≡ Some x → EndsAs (suc b) (st ∷ []) x
-ends_now b st end.Done e = e
-ends_now b st end.Full e = e
-ends_now b st end.Stuck e = e
-ends_now b st end.Spent e = absurd (never_spent st e)
+ends_now : (b : ℕ) (t : Turn) (x : End) → end_after t.step ≡ Some x → EndsAs (suc b) (t ∷ []) x
+ends_now b t end.Done e = e
+ends_now b t end.Full e = e
+ends_now b t end.Stuck e = e
+ends_now b t end.Spent e = absurd (never_spent t.step e)
 
 not_some : {X : Type 0} (o : Option X) → o ≡ None → IsSome o → ⊥
 not_some None e i = true≢false (sym i)
 not_some (Some x) e i = let z : ◌≡◌ {A = ℕ} 0 1 = cc in omega arith
 
 -- a set that a step leaves is no larger than there are ropes
-few_after : (P : Problem) (ms : List Member) (st : Step) → length ms ≤ P.ropes → StepMeans P ms st → length (members_after ms st) ≤ P.ropes
-few_after P ms Stuck l m = l
-few_after P ms (Found o (Enter w)) l m = let r = m.3.room in omega (arith, length-append ms (w ∷ []), r)
-few_after P ms (Found o (Leave k)) l m = let w = m.3.1.wrong.0 in omega (arith, length-remove ms k w)
-few_after P ms (Found o Full) l m = l
-few_after P ms (Found o Done) l m = l
+few_after : (P : Problem) (ms : List Member) (ps : List Pivot) (st : Step) → length ms ≤ P.ropes → StepMeans P ms ps st → length (members_after ms st) ≤ P.ropes
+few_after P ms ps Stuck l m = l
+few_after P ms ps (Found o (Enter w)) l m = let r = m.3.room in omega (arith, length-append ms (w ∷ []), r)
+few_after P ms ps (Found o (Leave k)) l m = let w = m.3.1.wrong.0 in omega (arith, length-remove ms k w)
+few_after P ms ps (Found o Full) l m = l
+few_after P ms ps (Found o Done) l m = l
+
+-- each pivot that a step takes can be taken
+means_takable : (P : Problem) (ms : List Member) (ps : List Pivot) (st : Step) → StepMeans P ms ps st → All Takable (sizes ps)
+means_takable P ms ps Stuck m = lead_takable _ 0 ps (system_of P ms) m.0 m.1
+means_takable P ms ps (Found o ch) m = lead_takable _ 0 ps (system_of P ms) m.1.0 m.1.1
+
+all_takable : (P : Problem) (ms : List Member) (ts : List Turn) → Follow P ms ts → All Takable (taken ts)
+all_takable P ms [] f = λ k d l. absurd (omega arith)
+all_takable P ms (t ∷ ts) f = All-append Takable (sizes t.pivots) (taken ts) (means_takable P ms t.pivots t.step f.0) (all_takable P (members_after ms t.step) ts f.2)
 
 module _ (P : Problem) (ordered : Ordered P) where
-  module _ (b : ℕ) (ms : List Member) where
-    goes : (st : Step) (r : Run) → StepMeans P ms st → end_after st ≡ None → Taken P b (members_after ms st) r → Taken P (suc b) ms (stepped (offers_of st) r)
-    goes st r m e h =
+  module _ (b : ℕ) (ms : List Member) (s : Float) (n : NotNan s) where
+    goes : (st : Step) (t : Float) (h : LawfulStep P ms s st t) (r : Run) → end_after st ≡ None → Taken P b (members_after ms st) t r → Taken P (suc b) ms s (stepped (offers_of st) r)
+    goes st t h r e k =
         record {
-          steps = st ∷ h.steps;
-          follow = (m, λ i. absurd (not_some (end_after st) e i), h.follow);
-          counted = ap suc h.counted;
-          within_budget = let w = h.within_budget in omega arith;
-          offered = ap (λ os. offers_of st ++ os) h.offered;
-          ends = ends_later b st h.steps r.ending e h.ends;
+          turns = record { step = st; pivots = h.pivots } ∷ k.turns;
+          follow = (h.means, λ i. absurd (not_some (end_after st) e i), k.follow);
+          counted = ap suc k.counted;
+          within_budget = let w = k.within_budget in omega arith;
+          offered = ap (λ os. offers_of st ++ os) k.offered;
+          ends = ends_later b (record { step = st; pivots = h.pivots }) k.turns r.ending e k.ends;
+          smallest = least_on s (sizes h.pivots) t h.smallest (means_takable P ms h.pivots st h.means) (taken k.turns) r.smallest n k.smallest;
         }
 
-    halts : (st : Step) (x : End) (s : Float) → StepMeans P ms st → end_after st ≡ Some x → Taken P (suc b) ms (stepped (offers_of st) (over x s))
-    halts st x s m e =
+    halts : (st : Step) (t : Float) (h : LawfulStep P ms s st t) (x : End) → end_after st ≡ Some x → Taken P (suc b) ms s (stepped (offers_of st) (over x t))
+    halts st t h x e =
         record {
-          steps = st ∷ [];
-          follow = (m, λ i. refl, tt);
+          turns = record { step = st; pivots = h.pivots } ∷ [];
+          follow = (h.means, λ i. refl, tt);
           counted = refl;
           within_budget = omega arith;
           offered = refl;
-          ends = ends_now b st x e;
+          ends = ends_now b (record { step = st; pivots = h.pivots }) x e;
+          smallest = least_on s (sizes h.pivots) t h.smallest (means_takable P ms h.pivots st h.means) [] t n (least_alone t);
         }
 
-    taken_after : (st : Step) (t : Float) (next : List Member → Float → Run) → StepMeans P ms st → ((s : Float) → Taken P b (members_after ms st) (next (members_after ms st) s)) →
-        Taken P (suc b) ms (after_step st t ms next)
-    taken_after Stuck t next m h = halts Stuck end.Stuck t m refl
-    taken_after (Found o (Enter w)) t next m h = goes (Found o (Enter w)) _ m refl (h t)
-    taken_after (Found o (Leave k)) t next m h = goes (Found o (Leave k)) _ m refl (h t)
-    taken_after (Found o Full) t next m h = halts (Found o Full) end.Full t m refl
-    taken_after (Found o Done) t next m h = halts (Found o Done) end.Done t m refl
+    taken_after : (st : Step) (t : Float) (next : List Member → Float → Run) → LawfulStep P ms s st t → Taken P b (members_after ms st) t (next (members_after ms st) t) →
+        Taken P (suc b) ms s (after_step st t ms next)
+    taken_after Stuck t next h k = halts Stuck t h end.Stuck refl
+    taken_after (Found o (Enter w)) t next h k = goes (Found o (Enter w)) t h _ refl k
+    taken_after (Found o (Leave i)) t next h k = goes (Found o (Leave i)) t h _ refl k
+    taken_after (Found o Full) t next h k = halts (Found o Full) t h end.Full refl
+    taken_after (Found o Done) t next h k = halts (Found o Done) t h end.Done refl
 
-  taken_from : (b : ℕ) (ms : List Member) (s : Float) → length ms ≤ P.ropes → Taken P b ms (run_from b P ms s)
-  taken_from zero ms s l = record { steps = []; follow = tt; counted = refl; within_budget = omega arith; offered = refl; ends = (refl, refl) }
-  taken_from (suc b) ms s l =
-      let m = (step_only P ms l ordered s (step_at P ms s) refl).0 in
-      taken_after b ms (step_at P ms s) (solved_at P ms s).0 (run_from b P) m (λ t. taken_from b (members_after ms (step_at P ms s)) t (few_after P ms (step_at P ms s) l m))
+  taken_from : (b : ℕ) (ms : List Member) (s : Float) → length ms ≤ P.ropes → NotNan s → Taken P b ms s (run_from b P ms s)
+  taken_from zero ms s l n = record { turns = []; follow = tt; counted = refl; within_budget = omega arith; offered = refl; ends = (refl, refl); smallest = least_alone s }
+  taken_from (suc b) ms s l n =
+      let st = step_at P ms s in
+      let t = (solved_at P ms s).0 in
+      let h = step_lawful P ms l ordered s st t refl refl in
+      taken_after b ms s n st t (run_from b P) h
+      (taken_from b (members_after ms st) t (few_after P ms h.pivots st l h.means) (least_number s (sizes h.pivots) t h.smallest (means_takable P ms h.pivots st h.means) n))
 
-  -- two runs of the same budget take the same steps
-  abbrev Whole : ℕ → List Step → Type 0
-  Whole b sts = (length sts ≤ b) × (IsSome (last_end sts) ⊎ (length sts ≡ b))
+  -- two runs of the same budget take the same turns
+  abbrev Whole : ℕ → List Turn → Type 0
+  Whole b ts = (length ts ≤ b) × (IsSome (last_end ts) ⊎ (length ts ≡ b))
 
-  whole : (b : ℕ) (sts : List Step) (x : End) → length sts ≤ b → EndsAs b sts x → Whole b sts
-  whole b sts end.Done l h = (l, inl (ap is_some h))
-  whole b sts end.Full l h = (l, inl (ap is_some h))
-  whole b sts end.Stuck l h = (l, inl (ap is_some h))
-  whole b sts end.Spent l h = (l, inr h.1)
+  whole : (b : ℕ) (ts : List Turn) (x : End) → length ts ≤ b → EndsAs b ts x → Whole b ts
+  whole b ts end.Done l h = (l, inl (ap is_some h))
+  whole b ts end.Full l h = (l, inl (ap is_some h))
+  whole b ts end.Stuck l h = (l, inl (ap is_some h))
+  whole b ts end.Spent l h = (l, inr h.1)
 
-  whole_later : (b : ℕ) (st : Step) (sts : List Step) → end_after st ≡ None → Whole (suc b) (st ∷ sts) → Whole b sts
-  whole_later b st sts e (l, inl i) = (omega arith, inl (ap is_some (sym (last_of st sts e)) ∙ i))
-  whole_later b st sts e (l, inr n) = (omega arith, inr (omega arith))
+  whole_later : (b : ℕ) (t : Turn) (ts : List Turn) → end_after t.step ≡ None → Whole (suc b) (t ∷ ts) → Whole b ts
+  whole_later b t ts e (l, inl i) = (omega arith, inl (ap is_some (sym (last_of t ts e)) ∙ i))
+  whole_later b t ts e (l, inr n) = (omega arith, inr (omega arith))
 
-  none_left : (b : ℕ) (st : Step) (sts : List Step) → Whole b [] → Whole b (st ∷ sts) → ⊥
-  none_left b st sts (l, inl i) w = true≢false (sym i)
-  none_left b st sts (l, inr n) w = let k = w.0 in omega arith
+  none_left : (b : ℕ) (t : Turn) (ts : List Turn) → Whole b [] → Whole b (t ∷ ts) → ⊥
+  none_left b t ts (l, inl i) w = true≢false (sym i)
+  none_left b t ts (l, inr n) w = let k = w.0 in omega arith
 
-  same_steps : (b : ℕ) (ms : List Member) → length ms ≤ P.ropes → (xs ys : List Step) → Follow P ms xs → Follow P ms ys → Whole b xs → Whole b ys → xs ≡ ys
-  same_steps b ms l [] [] f g v w = refl
-  same_steps b ms l [] (y ∷ ys) f g v w = absurd (none_left b y ys v w)
-  same_steps b ms l (x ∷ xs) [] f g v w = absurd (none_left b x xs w v)
-  same_steps zero ms l (x ∷ xs) (y ∷ ys) f g v w = absurd (let k = v.0 in omega arith)
-  same_steps (suc b) ms l (x ∷ xs) (y ∷ ys) f g v w =
-      let e = same_step P ms l ordered x y f.0 g.0 in
-      let F : Step → Type 0 = λ st. Follow P (members_after ms st) ys in
-      let W : Step → Type 0 = λ st. Whole (suc b) (st ∷ ys) in
-      let I : Step → Type 0 = λ st. IsSome (end_after st) → ys ≡ [] in
-      ap (λ st. st ∷ xs) e ∙ ap (λ sts. y ∷ sts)
-      (rest (end_after x) refl (subst F (sym e) g.2) (subst I (sym e) g.1) (subst W (sym e) w) (same_steps b (members_after ms x) (few_after P ms x l f.0) xs ys))
+  same_turns : (b : ℕ) (ms : List Member) → length ms ≤ P.ropes → (xs ys : List Turn) → Follow P ms xs → Follow P ms ys → Whole b xs → Whole b ys → ys ≡ xs
+  same_turns b ms l [] [] f g v w = refl
+  same_turns b ms l [] (y ∷ ys) f g v w = absurd (none_left b y ys v w)
+  same_turns b ms l (x ∷ xs) [] f g v w = absurd (none_left b x xs w v)
+  same_turns zero ms l (x ∷ xs) (y ∷ ys) f g v w = absurd (let k = v.0 in omega arith)
+  same_turns (suc b) ms l (x ∷ xs) (y ∷ ys) f g v w =
+      let e = same_step P ms ordered x.pivots y.pivots x.step y.step f.0 g.0 in
+      let q : y ≡ x = ap (λ st. record { step = st; pivots = y.pivots }) e.1 ∙ ap (λ ps. record { step = x.step; pivots = ps }) e.0 in
+      let F : Turn → Type 0 = λ t. Follow P (members_after ms t.step) ys in
+      let W : Turn → Type 0 = λ t. Whole (suc b) (t ∷ ys) in
+      let I : Turn → Type 0 = λ t. IsSome (end_after t.step) → ys ≡ [] in
+      ap (λ t. t ∷ ys) q ∙ ap (λ ts. x ∷ ts)
+      (rest (end_after x.step) refl (subst F q g.2) (subst I q g.1) (subst W q w) (same_turns b (members_after ms x.step) (few_after P ms x.pivots x.step l f.0) xs ys))
     where
-      rest : (o : Option End) → end_after x ≡ o → Follow P (members_after ms x) ys → (IsSome (end_after x) → ys ≡ []) → Whole (suc b) (x ∷ ys) →
-          (Follow P (members_after ms x) xs → Follow P (members_after ms x) ys → Whole b xs → Whole b ys → xs ≡ ys) → xs ≡ ys
+      rest : (o : Option End) → end_after x.step ≡ o → Follow P (members_after ms x.step) ys → (IsSome (end_after x.step) → ys ≡ []) → Whole (suc b) (x ∷ ys) →
+          (Follow P (members_after ms x.step) xs → Follow P (members_after ms x.step) ys → Whole b xs → Whole b ys → ys ≡ xs) → ys ≡ xs
       rest None e p i q next = next f.2 p (whole_later b x xs e v) (whole_later b x ys e q)
-      rest (Some a) e p i q next = let t = ap is_some e in f.1 t ∙ sym (i t)
+      rest (Some a) e p i q next = let t = ap is_some e in i t ∙ sym (f.1 t)
 
-ending_is : (b : ℕ) (sts : List Step) (x : End) → EndsAs b sts x → x ≡ unwrap_or (last_end sts) end.Spent
-ending_is b sts end.Done h = rw h
-ending_is b sts end.Full h = rw h
-ending_is b sts end.Stuck h = rw h
-ending_is b sts end.Spent h = rw h.0
+ending_is : (b : ℕ) (ts : List Turn) (x : End) → EndsAs b ts x → x ≡ unwrap_or (last_end ts) end.Spent
+ending_is b ts end.Done h = rw h
+ending_is b ts end.Full h = rw h
+ending_is b ts end.Stuck h = rw h
+ending_is b ts end.Spent h = rw h.0
 
 module _ (j : Job) (b : ℕ) (r : Report) (e : r ≡ report_of (exchanged (problem_of j) b)) where
-  P : Problem
-  P = problem_of j
-
   pub lawful_run : LawfulRun (problem_of j) b (exchanged (problem_of j) b).offers r
   unfolding exchanged
   lawful_run =
       let L : Report → Type 0 = LawfulRun (problem_of j) b (exchanged (problem_of j) b).offers in
-      let t = taken_from (problem_of j) (job_ordered j) b [] largest (omega arith) in
+      let t = taken_from (problem_of j) (job_ordered j) b [] largest (omega arith) largest_number in
       subst L (sym e)
       (record {
-        steps = t.steps;
+        turns = t.turns;
         follow = t.follow;
         counted = t.counted;
         within_budget = t.within_budget;
         offered = t.offered;
         ends = t.ends;
+        smallest = told (taken t.turns) _ t.smallest (all_takable (problem_of j) [] t.turns t.follow);
       })
 
   pub alone_run : AloneRun (problem_of j) b (exchanged (problem_of j) b).offers r
   alone_run os q h =
       let f = lawful_run in
-      let s = same_steps (problem_of j) (job_ordered j) b [] (omega arith) h.steps f.steps h.follow f.follow
-      (whole (problem_of j) (job_ordered j) b h.steps q.end (let c = h.counted in let w = h.within_budget in omega arith) h.ends)
-      (whole (problem_of j) (job_ordered j) b f.steps r.end (let c = f.counted in let w = f.within_budget in omega arith) f.ends) in
+      let s = same_turns (problem_of j) (job_ordered j) b [] (omega arith) f.turns h.turns f.follow h.follow
+      (whole (problem_of j) (job_ordered j) b f.turns r.end (let c = f.counted in let w = f.within_budget in omega arith) f.ends)
+      (whole (problem_of j) (job_ordered j) b h.turns q.end (let c = h.counted in let w = h.within_budget in omega arith) h.ends) in
       let a : q.steps ≡ r.steps = h.counted ∙ ap length s ∙ sym f.counted in
-      let n : q.end ≡ r.end = ending_is b h.steps q.end h.ends ∙ ap (λ sts. unwrap_or (last_end sts) end.Spent) s ∙ sym (ending_is b f.steps r.end f.ends) in
-      (h.offered ∙ ap (flat_map offers_of) s ∙ sym f.offered, a, n)
+      let n : q.end ≡ r.end = ending_is b h.turns q.end h.ends ∙ ap (λ ts. unwrap_or (last_end ts) end.Spent) s ∙ sym (ending_is b f.turns r.end f.ends) in
+      let T : List Turn → Type 0 = λ ts. Told (taken ts) q.smallest in
+      let m = subst T s h.smallest in
+      (h.offered ∙ ap (flat_map (λ t. offers_of t.step)) s ∙ sym f.offered, a, n, told_same (taken f.turns) q.smallest r.smallest m f.smallest, told_same (taken f.turns) r.smallest q.smallest f.smallest m)

@@ -1,15 +1,24 @@
 -- A step, put together from its system, its reading and its choice.
-use Rattle.std.proofs.Common.{Bool, true, false, cond, ◌≡◌, ℕ, zero, suc, ◌+◌, ◌<◌, ◌≤◌, leb, List, length, take, Some, None, Option, sym, refl, ap, ◌∙◌, subst, arith, le-leb}
-use lib.Ieee.{Float}
-use Rattle.std.proofs.lemmas.List.{take_at, length-take-le}
+use Rattle.std.proofs.Common.{true, ◌≡◌, ℕ, ◌+◌, ◌<◌, ◌≤◌, leb, List, [], ◌∷◌, length, take, Some, None, Option, sym, refl, ap, ◌∙◌, subst, arith, le-leb, zero, suc, ◌++◌, map, replicate, ℤ, pos, neg_ℤ}
+use lib.Ieee.{Float, binary64, of_int}
+use Rattle.std.proofs.lemmas.List.FromFn.{length-map-range_with_len}
+use Rattle.std.proofs.lemmas.List.Elements.{All-append}
+use Rattle.std.specs.List.{All, range_with_len}
+use Rattle.exchange.specs.Members.{weight, held_at}
+use Rattle.std.proofs.lemmas.List.{take_at, length-take-le, length-append, length-map, length-replicate}
 use Rattle.std.specs.Option.{option_map}
 use Rattle.duality.specs.Problem.{Problem}
-use Rattle.elimination.specs.Lines.{largest, seen, at, inside, lesser, takable, pivot_of, column_done, columns_done, Triangle, triangle_of, unknowns_of, solved, solved_in, padded, Solves}
+use Rattle.elimination.specs.Lines.{seen, at, inside, solved, left, solved_in, padded, Solves}
+use Rattle.elimination.specs.Runs.{Elimination, Least, sizes}
+use Rattle.elimination.specs.declared.pivots.Pivot.{Pivot}
+use Rattle.elimination.proofs.Clearing.{AllLong}
+use Rattle.elimination.proofs.Ending.{is_run}
+use Rattle.elimination.proofs.Only.{one_solution}
 use Rattle.elimination.proofs.Seen.{solved_seen}
-use Rattle.exchange.specs.Systems.{size_of, system_of}
-use Rattle.exchange.specs.Meanings.{Means, Only}
+use Rattle.exchange.specs.Systems.{size_of, rope_line, member_line, floats, system_of}
+use Rattle.exchange.specs.Meanings.{Means}
 use Rattle.exchange.specs.Offers.{offered, pulls_of, pressures_of}
-use Rattle.exchange.specs.Steps.{solved_at, choice_at, found, step_at, unknowns_at, StepMeans}
+use Rattle.exchange.specs.Steps.{solved_at, choice_at, found, step_at, Solution, StepMeans, LawfulStep}
 use Rattle.exchange.specs.declared.members.Member.{Member}
 use Rattle.exchange.specs.declared.members.Offer.{Offer}
 use Rattle.exchange.specs.declared.members.Choice.{Choice}
@@ -52,24 +61,34 @@ module _ (n : ℕ) (us X : List Float) (e : X ≡ padded us) (w : Solves n (Some
   pub front_inside : (k : ℕ) → k < n → inside (at (take n X) k) ≡ true
   front_inside k l = ap (λ z. inside (at z k)) array_front ∙ w.1 k (omega (arith, w.0))
 
--- earlier pivots do not matter to the unknowns
-same_columns : (w m k : ℕ) (s t : Float) (ls : List (List Float)) →
-    ((columns_done w m k s ls).whole ≡ (columns_done w m k t ls).whole) × ((columns_done w m k s ls).lines ≡ (columns_done w m k t ls).lines)
-same_columns w zero k s t ls = (refl, refl)
-same_columns w (suc m) k s t ls = on (takable (pivot_of k ls).1) _ _ _ _ (same_columns w m (suc k) (lesser s (pivot_of k ls).1) (lesser t (pivot_of k ls).1) (column_done w k ls)) (refl, refl)
-  where
-    on : (b : Bool) (u v x y : Triangle) → (u.whole ≡ v.whole) × (u.lines ≡ v.lines) → (x.whole ≡ y.whole) × (x.lines ≡ y.lines) →
-        ((cond b u x).whole ≡ (cond b v y).whole) × ((cond b u x).lines ≡ (cond b v y).lines)
-    on true u v x y p q = p
-    on false u v x y p q = q
+-- the system of a set is square, with a right side
+each_long : {X : Type 0} (f : X → List Float) (w : ℕ) → ((x : X) → w ≤ length (f x)) → (xs : List X) → All (λ line. w ≤ length line) (map f xs)
+each_long f w h [] k d l = absurd (omega arith)
+each_long f w h (x ∷ xs) zero d l = h x
+each_long f w h (x ∷ xs) (suc k) d l = each_long f w h xs k d (omega arith)
 
-pub same_unknowns : (P : Problem) (ms : List Member) (s t : Float) → (solved_at P ms s).1 ≡ (solved_at P ms t).1
-unfolding solved
-same_unknowns P ms s t =
-    let ls = system_of P ms in
-    let e = same_columns (length ls + 1) (length ls) 0 s t ls in
-    ap (λ (b : Bool). cond b (unknowns_of (length ls) 0 (triangle_of s ls).lines) None) e.0
-    ∙ ap (λ (x : List (List Float)). cond (triangle_of t ls).whole (unknowns_of (length ls) 0 x) None) e.1
+-- a line in three parts
+line_long : (xs ys : List ℤ) (z : ℤ) (n m : ℕ) → length xs ≡ n → length ys ≡ m → n + m + 1 ≤ length (floats (xs ++ (ys ++ z ∷ [])))
+line_long xs ys z n m a b =
+    let e = length-map (xs ++ (ys ++ z ∷ [])) (of_int binary64) in
+    omega (arith, e, length-append xs (ys ++ z ∷ []), length-append ys (z ∷ []), a, b)
+
+pub system_long : (P : Problem) (ms : List Member) → AllLong (length (system_of P ms) + 1) (system_of P ms)
+unfolding system_of
+system_long P ms i l =
+    let w = size_of P ms + 1 in
+    let f : ℕ → List Float = λ r. floats (rope_line P ms r) in
+    let g : Member → List Float = λ v. floats (member_line P ms v) in
+    let n = length-map-range_with_len f 0 P.ropes in
+    let m = length-map ms g in
+    let r = each_long f w
+    (λ k. line_long (map (P.G k) (range_with_len 0 P.ropes)) (map (λ v. neg_ℤ (weight P v.limit k)) ms) (neg_ℤ (P.c k)) P.ropes (length ms) (length-map-range_with_len (P.G k) 0 P.ropes)
+    (length-map ms (λ v. neg_ℤ (weight P v.limit k)))) (range_with_len 0 P.ropes) in
+    let q = each_long g w
+    (λ v. line_long (map (weight P v.limit) (range_with_len 0 P.ropes)) (replicate (length ms) (pos 0)) (held_at P v) P.ropes (length ms)
+    (length-map-range_with_len (weight P v.limit) 0 P.ropes) (length-replicate (length ms) (pos 0))) ms in
+    let all = All-append (λ line. w ≤ length line) (map f (range_with_len 0 P.ropes)) (map g ms) r q i [] l in
+    omega (arith, all, n, m, length-append (map f (range_with_len 0 P.ropes)) (map g ms))
 
 module _ (P : Problem) (ms : List Member) (s : Float) where
   pub step_stuck : (solved_at P ms s).1 ≡ None → Stuck ≡ step_at P ms s
@@ -78,27 +97,40 @@ module _ (P : Problem) (ms : List Member) (s : Float) where
   pub step_found : (us : List Float) (o : Offer) (ch : Choice) → (solved_at P ms s).1 ≡ Some us → o ≡ offered P ms us → ch ≡ choice_at P ms us → Found o ch ≡ step_at P ms s
   step_found us o ch e p q = rw (e, p, q)
 
-module _ (P : Problem) (ms : List Member) (few : length ms ≤ P.ropes) (ordered : Ordered P) where
-  pub found_means : (o : Option (List Float)) → unknowns_at P ms ≡ o → StepMeans P ms (found P ms o)
-  found_means None e = e
-  found_means (Some us) e = (us, e, refl, chosen_means P ms (pulls_of P us) (pressures_of P us) few)
+module _ (P : Problem) (ms : List Member) where
+  -- what is solved is brought to its end by some pivots
+  module _ (s : Float) where
+    abbrev whole : Elimination s (system_of P ms) (left s (system_of P ms)) (solved_at P ms s).0 (solved_at P ms s).1
+    whole = is_run s (system_of P ms) (system_long P ms)
 
-  pub same_step : (a b : Step) → StepMeans P ms a → StepMeans P ms b → a ≡ b
-  same_step Stuck Stuck m n = refl
-  same_step Stuck (Found o ch) m n = absurd (let e : None ≡ Some n.0 = sym m ∙ n.1 in let z : ◌≡◌ {A = ℕ} 0 1 = cc in omega arith)
-  same_step (Found o ch) Stuck m n = absurd (let e : None ≡ Some m.0 = sym n ∙ m.1 in let z : ◌≡◌ {A = ℕ} 0 1 = cc in omega arith)
-  same_step (Found o ch) (Found p c) m n =
-      let q : Some m.0 ≡ Some n.0 = sym m.1 ∙ n.1 in
-      let e : m.0 ≡ n.0 = cc in
-      let M : List Float → Type 0 = λ us. Means P ms (pulls_of P us) (pressures_of P us) ch in
-      let f = same_choice P ms (pulls_of P n.0) (pressures_of P n.0) ordered ch c (subst M e m.3) n.3 in
-      let g : o ≡ p = m.2 ∙ ap (offered P ms) e ∙ sym n.2 in
-      rw (g, f)
+    solution_at : Solution P ms whole.pivots (solved_at P ms s).1
+    solution_at = (left s (system_of P ms), whole.columns, whole.end)
 
-  -- a step has its meaning, and nothing else has it
-  pub step_only : (s : Float) (st : Step) → st ≡ step_at P ms s → Only (StepMeans P ms) st
-  step_only s st e =
-      let S : Step → Type 0 = StepMeans P ms in
-      let f : step_at P ms s ≡ found P ms (unknowns_at P ms) = ap (found P ms) (same_unknowns P ms s largest) in
-      let m = subst S (sym (e ∙ f)) (found_means (unknowns_at P ms) refl) in
-      (m, λ y h. same_step y st h m)
+  found_means : (few : length ms ≤ P.ropes) (ps : List Pivot) (o : Option (List Float)) → Solution P ms ps o → StepMeans P ms ps (found P ms o)
+  found_means few ps None h = h
+  found_means few ps (Some us) h = (us, h, refl, chosen_means P ms (pulls_of P us) (pressures_of P us) few)
+
+  one_answer : (ps qs : List Pivot) (us vs : Option (List Float)) → Solution P ms ps us → Solution P ms qs vs → (vs ≡ us) × (qs ≡ ps)
+  one_answer ps qs us vs f g = let r = one_solution (system_of P ms) f.0 g.0 ps qs us vs f.1 f.2 g.1 g.2 in (r.1, r.2)
+
+  -- a step is the only one of its meaning
+  pub same_step : Ordered P → (ps qs : List Pivot) (a b : Step) → StepMeans P ms ps a → StepMeans P ms qs b → (qs ≡ ps) × (b ≡ a)
+  same_step ordered ps qs Stuck Stuck m n = ((one_answer ps qs None None m n).1, refl)
+  same_step ordered ps qs Stuck (Found o ch) m n = let e : Some n.0 ≡ None = (one_answer ps qs None (Some n.0) m n.1).0 in let z : ◌≡◌ {A = ℕ} 0 1 = cc in absurd (omega arith)
+  same_step ordered ps qs (Found o ch) Stuck m n = let e : None ≡ Some m.0 = (one_answer ps qs (Some m.0) None m.1 n).0 in let z : ◌≡◌ {A = ℕ} 0 1 = cc in absurd (omega arith)
+  same_step ordered ps qs (Found o ch) (Found p c) m n =
+      let r = one_answer ps qs (Some m.0) (Some n.0) m.1 n.1 in
+      let q : Some n.0 ≡ Some m.0 = r.0 in
+      let e : n.0 ≡ m.0 = cc in
+      let M : List Float → Type 0 = λ us. Means P ms (pulls_of P us) (pressures_of P us) c in
+      let f = same_choice P ms (pulls_of P m.0) (pressures_of P m.0) ordered c ch (subst M e n.3) m.3 in
+      let g : p ≡ o = n.2 ∙ ap (offered P ms) e ∙ sym m.2 in
+      (r.1, ap (λ x. Found x c) g ∙ ap (λ x. Found o x) f)
+
+  pub step_lawful : length ms ≤ P.ropes → Ordered P → (s : Float) (st : Step) (t : Float) → st ≡ step_at P ms s → t ≡ (solved_at P ms s).0 → LawfulStep P ms s st t
+  step_lawful few ordered s st t e f =
+      let w = whole s in
+      let S : Step → Type 0 = StepMeans P ms w.pivots in
+      let m = subst S (sym e) (found_means few w.pivots (solved_at P ms s).1 (solution_at s)) in
+      let L : Float → Type 0 = Least (s ∷ sizes w.pivots) in
+      record { pivots = w.pivots; means = m; smallest = subst L (sym f) w.size; alone = λ ps x h. same_step ordered w.pivots ps st x m h }

@@ -1,6 +1,10 @@
 -- What every exchange keeps to, step by step, in the words of a problem.
-use Rattle.std.specs.Prelude.{◌≡◌, ℕ, ◌≤◌, List, [], ◌∷◌, length, Some, None, Option, IsSome, flat_map}
+use Rattle.std.specs.Prelude.{◌≡◌, ℕ, ◌≤◌, List, [], ◌∷◌, length, Some, None, Option, IsSome, flat_map, Float}
 use Rattle.duality.specs.Problem.{Problem}
+use Rattle.std.specs.Float.{◌<ᶠ◌}
+use Rattle.elimination.specs.Lines.{none}
+use Rattle.elimination.specs.Runs.{Least, Takable, sizes}
+use Rattle.elimination.specs.declared.pivots.Pivot.{Pivot}
 use Rattle.exchange.specs.Steps.{members_after, StepMeans}
 use Rattle.exchange.specs.Runs.{offers_of, end_after}
 use Rattle.exchange.specs.declared.members.Member.{Member}
@@ -10,33 +14,48 @@ use Rattle.exchange.specs.declared.members.Step.{Step}
 use Rattle.exchange.specs.declared.members.End.{End}
 use Rattle.exchange.specs.declared.members.End.TheVariants.{Done, Full, Stuck, Spent}
 
--- steps that follow one another from the set ms on: each means what it says of its set, its choice makes the next set, and nothing follows an end
-abbrev pub Follow : Problem → List Member → List Step → Type 0
+-- a step of a run, and the pivots that it takes
+pub record Turn : Type 0 where
+  pub step : Step
+  pub pivots : List Pivot
+
+-- Turns that follow one another from the set ms on: each step means what it says of its set, its choice makes the next set, and nothing follows an end.
+abbrev pub Follow : Problem → List Member → List Turn → Type 0
 Follow P ms [] = Unit {0}
-Follow P ms (st ∷ sts) = StepMeans P ms st × (IsSome (end_after st) → sts ≡ []) × Follow P (members_after ms st) sts
+Follow P ms (t ∷ ts) = StepMeans P ms t.pivots t.step × (IsSome (end_after t.step) → ts ≡ []) × Follow P (members_after ms t.step) ts
 
 -- the end that the last of some steps means, if it means one
-abbrev pub last_end : List Step → Option End
+abbrev pub last_end : List Turn → Option End
 last_end [] = None
-last_end (st ∷ []) = end_after st
-last_end (st ∷ (t ∷ sts)) = last_end (t ∷ sts)
+last_end (t ∷ []) = end_after t.step
+last_end (t ∷ (u ∷ ts)) = last_end (u ∷ ts)
 
--- how steps end under a budget: as the last one means, or else spent, where a further one is due and the budget is used
-abbrev pub EndsAs : ℕ → List Step → End → Type 0
-EndsAs budget sts Done = last_end sts ≡ Some Done
-EndsAs budget sts Full = last_end sts ≡ Some Full
-EndsAs budget sts Stuck = last_end sts ≡ Some Stuck
-EndsAs budget sts Spent = (last_end sts ≡ None) × (length sts ≡ budget)
+-- how turns end under a budget: as the last step means, or else spent, where a further one is due and the budget is used
+abbrev pub EndsAs : ℕ → List Turn → End → Type 0
+EndsAs budget ts Done = last_end ts ≡ Some Done
+EndsAs budget ts Full = last_end ts ≡ Some Full
+EndsAs budget ts Stuck = last_end ts ≡ Some Stuck
+EndsAs budget ts Spent = (last_end ts ≡ None) × (length ts ≡ budget)
+
+-- the sizes of all pivots taken
+abbrev pub taken : List Turn → List Float
+taken ts = flat_map (λ t. sizes t.pivots) ts
+
+-- how the smallest pivot is told: 0 if none was taken, and else the least, which lies between the limits of a pivot
+abbrev pub Told : List Float → Float → Type 0
+Told [] x = x ≡ none
+Told (p ∷ ps) x = Least (p ∷ ps) x × Takable x
 
 -- Law: a run is a list of steps from the empty set on. Each step offers once, but for one that is stuck.
 pub record LawfulRun (P : Problem) (budget : ℕ) (offers : List Offer) (r : Report) : Type 0 where
-  pub steps : List Step
-  pub follow : Follow P [] steps
-  pub counted : r.steps ≡ length steps
+  pub turns : List Turn
+  pub follow : Follow P [] turns
+  pub counted : r.steps ≡ length turns
   pub within_budget : r.steps ≤ budget
-  pub offered : offers ≡ flat_map offers_of steps
-  pub ends : EndsAs budget steps r.end
+  pub offered : offers ≡ flat_map (λ t. offers_of t.step) turns
+  pub ends : EndsAs budget turns r.end
+  pub smallest : Told (taken turns) r.smallest
 
--- no other offers and report keep to that
+-- No other offers, steps and end keep to that, and no smallest pivot that is less or more.
 abbrev pub AloneRun : Problem → (budget : ℕ) → List Offer → Report → Type 0
-AloneRun P budget offers r = (os : List Offer) (q : Report) → LawfulRun P budget os q → (os ≡ offers) × (q.steps ≡ r.steps) × (q.end ≡ r.end)
+AloneRun P budget offers r = (os : List Offer) (q : Report) → LawfulRun P budget os q → (os ≡ offers) × (q.steps ≡ r.steps) × (q.end ≡ r.end) × ¬ (q.smallest <ᶠ r.smallest) × ¬ (r.smallest <ᶠ q.smallest)

@@ -13,10 +13,6 @@ use Rattle.exchange.specs.declared.members.Member.{Member}
 use Rattle.exchange.specs.declared.members.Choice.{Choice}
 use Rattle.exchange.specs.declared.members.Choice.TheVariants.{Enter, Leave, Full, Done}
 
--- x, and nothing else, is as A says
-abbrev pub Only : {X : Type 0} → (X → Type 0) → X → Type 0
-Only {X} A x = A x × ((y : X) → A y → y ≡ x)
-
 -- rows stand before bounds, each by index
 abbrev pub Before : Limit → Limit → Type 0
 Before (Row i) (Row k) = i < k

@@ -1,8 +1,10 @@
 -- A step of the exchange.
-use Rattle.std.specs.Prelude.{◌≡◌, ℕ, ◌<◌, false, List, [], ◌∷◌, ◌++◌, length, Some, None, Option, Float, true, take}
+use Rattle.std.specs.Prelude.{◌≡◌, ℕ, ◌+◌, ◌<◌, false, List, [], ◌∷◌, ◌++◌, length, Some, None, Option, Float, true, take}
 use Rattle.std.specs.List.{remove}
 use Rattle.duality.specs.Problem.{Problem}
-use Rattle.elimination.specs.Lines.{largest, solved}
+use Rattle.elimination.specs.Lines.{solved}
+use Rattle.elimination.specs.Runs.{Lead, Ends, Least, sizes}
+use Rattle.elimination.specs.declared.pivots.Pivot.{Pivot}
 use Rattle.duality.specs.Tests.{all_within}
 use Rattle.job.specs.Bounds.{InBounds}
 use Rattle.exchange.specs.Members.{Of}
@@ -56,11 +58,20 @@ abbrev pub OffersInside : Problem → Step → Type 0
 OffersInside P Stuck = Unit {0}
 OffersInside P (Found o ch) = InBounds P (take P.ropes o.point) × (all_within 16777216 (take P.rows o.multipliers) ≡ true)
 
--- the unknowns of a working set, or nothing where its system is stuck: earlier pivots do not matter
-abbrev pub unknowns_at : Problem → List Member → Option (List Float)
-unknowns_at P ms = (solved_at P ms largest).1
+-- The columns of a working set's system are done by these pivots, and it ends with these unknowns, or stuck with none.
+abbrev pub Solution : Problem → List Member → List Pivot → Option (List Float) → Type 0
+Solution P ms ps us =
+    (ls : List (List Float)) × Lead (length (system_of P ms) + 1) 0 ps (system_of P ms) ls × Ends (length (system_of P ms)) (length ps) ls us
 
--- Law: a step is stuck exactly if the system of its working set has no solution within the limits, and else its choice means what it says of the rounded solution.
-abbrev pub StepMeans : Problem → List Member → Step → Type 0
-StepMeans P ms Stuck = unknowns_at P ms ≡ None
-StepMeans P ms (Found o ch) = (us : List Float) × (unknowns_at P ms ≡ Some us) × (o ≡ offered P ms us) × Means P ms (pulls_of P us) (pressures_of P us) ch
+-- What a step means that takes these pivots: stuck, that its system has no solution within the limits; and else that its choice is as it says of the rounded solution.
+abbrev pub StepMeans : Problem → List Member → List Pivot → Step → Type 0
+StepMeans P ms ps Stuck = Solution P ms ps None
+StepMeans P ms ps (Found o ch) =
+    (us : List Float) × Solution P ms ps (Some us) × (o ≡ offered P ms us) × Means P ms (pulls_of P us) (pressures_of P us) ch
+
+-- Law: a step means what it says, and no other step does; s is the smallest pivot before it, and t the least of s and those that it takes.
+pub record LawfulStep (P : Problem) (ms : List Member) (s : Float) (st : Step) (t : Float) : Type 0 where
+  pub pivots : List Pivot
+  pub means : StepMeans P ms pivots st
+  pub smallest : Least (s ∷ sizes pivots) t
+  pub alone : (ps : List Pivot) (x : Step) → StepMeans P ms ps x → (ps ≡ pivots) × (x ≡ st)

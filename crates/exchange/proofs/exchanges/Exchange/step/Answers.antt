@@ -12,7 +12,7 @@ use Rattle.exchange.specs.declared.members.Offer.{Offer}
 use Rattle.exchange.specs.declared.members.Step.TheVariants.{Found}
 use Rattle.exchange.proofs.Offering.{offered_inside}
 use Rattle.exchange.proofs.Meanings.{chosen_means, means_follows, job_ordered}
-use Rattle.exchange.proofs.Stepping.{Pair, system_solved, law_kept, none_from, some_from, array_front, front_long, front_inside, step_stuck, step_found, step_only}
+use Rattle.exchange.proofs.Stepping.{Pair, system_solved, law_kept, none_from, some_from, array_front, front_long, front_inside, step_stuck, step_found, step_lawful}
 use Rattle.exchange.proofs.exchanges.Exchange.step.Goals as goal
 
 pub returns-in_default : goal.returns-in_default
@@ -27,13 +27,14 @@ returns-in_default c =
     let q = system_solved P ms c.deref.result.now c.size-size.result e.smallest c.fill_square.new.lines d k h (omega arith) c.fill_square.ensures in
     let n = none_from (solved_at P ms e.smallest).1 (sym c.in_default.is ∙ c.solve-solution.ensures.unknowns ∙ ap (λ (p : Pair). option_map padded p.1) q) in
     let v = step_stuck P ms e.smallest n in
+    let t = c.solve-solution.ensures.smallest ∙ ap (λ (p : Pair). p.0) q in
     record {
       value = v;
       members = refl;
-      smallest = c.solve-solution.ensures.smallest ∙ ap (λ (p : Pair). p.0) q;
+      smallest = t;
       job = refl;
       inside = tt;
-      meaning = step_only P ms e.few (job_ordered j) e.smallest _ v;
+      law = step_lawful P ms e.few (job_ordered j) e.smallest _ _ v t;
     }
 
 pub reading-choice-requires : goal.reading-choice-requires
@@ -90,11 +91,12 @@ returns c =
     let v =
     step_found P ms e.smallest us c.reading-choice.result.0 c.reading-choice.result.1 u.1.0 o
     (c.reading-choice.ensures.choice ∙ ap (λ (x : List Member). choice_at P x (take c.size-size.result X)) d ∙ ap (choice_at P ms) r) in
+    let t = c.follow.ensures.smallest ∙ c.solve-solution.ensures.smallest ∙ ap (λ (p : Pair). p.0) q in
     record {
       value = v;
       members = c.follow.ensures.members;
-      smallest = c.follow.ensures.smallest ∙ c.solve-solution.ensures.smallest ∙ ap (λ (p : Pair). p.0) q;
+      smallest = t;
       job = c.follow.ensures.job;
       inside = subst L (sym o) (offered_inside j ms us c.reading-choice.result.1 (omega (arith, w.0, k)));
-      meaning = step_only P ms e.few (job_ordered j) e.smallest _ v;
+      law = step_lawful P ms e.few (job_ordered j) e.smallest _ _ v t;
     }
