@@ -1,5 +1,5 @@
 -- Solve: the exchange and then the walk, on the problem in force; what they find is offered like anyone's.
-use Rattle.std.specs.Prelude.{ℕ, ◌≤◌, cond, List, [], ◌∷◌, ◌++◌, take, ℤ, Some, None, Ok, Err, Option, Result, nat_le}
+use Rattle.std.specs.Prelude.{ℕ, cond, List, [], ◌∷◌, ◌++◌, take, ℤ, Some, None, Ok, Err, Option, Result, nat_le}
 use Rattle.std.specs.Option.{unwrap_or}
 use Rattle.duality.specs.Lists.{places}
 use Rattle.duality.specs.Problem.{Problem}
@@ -11,9 +11,12 @@ use Rattle.job.specs.Rows.{judged}
 use Rattle.terms.specs.declared.unmet.Unmet.{Unmet}
 use Rattle.reading.specs.Plain.{plain}
 use Rattle.exchange.specs.Runs.{Run, exchanged, reported}
+use Rattle.exchange.specs.Laws.{LawfulRun, AloneRun}
 use Rattle.exchange.specs.declared.members.Offer.{Offer as Found}
+use Rattle.exchange.specs.declared.members.Report.{Report as Exchanged}
 use Rattle.walk.specs.Walks.{Ended, walk_from}
-use Rattle.walk.specs.Laws.{Lawful}
+use Rattle.walk.specs.Laws.{Lawful, Alone}
+use Rattle.walk.specs.declared.ends.Walked.{Walked}
 use Rattle.calls.specs.declared.answers.Report.{Report}
 use Rattle.calls.specs.States.{State, Pair}
 use Rattle.calls.specs.Offers.{Offer, point, pair, took_all}
@@ -79,8 +82,18 @@ report s steps moves =
       smallest = reported (exchange_of s steps).smallest;
     }
 
--- Law: no count passes its budget, and the walk that is reported was made: each of its moves lowers,
--- settled means that none does any more, and spent that one does and the budget is used.
+-- what the report says of the exchange, and of the walk
+
+abbrev pub exchange_in : Report → Exchanged
+exchange_in r = record { steps = r.steps; end = r.exchange; smallest = r.smallest }
+
+abbrev pub walk_in : Report → Walked
+walk_in r = record { moves = r.moves; end = r.walk }
+
+-- Law: the exchange that is reported was made step by step, and the walk move by move, as their own laws say: each step means what it says of the
+-- working set, each move is the first that lowers, no count passes its budget, and an end is told exactly where it came. No other offers, point or counts do.
 pub record LawfulSolve (s : State) (steps moves : ℕ) (r : Report) : Type 0 where
-  pub within_steps : r.steps ≤ steps
-  pub walked : Lawful (written s) moves (start_of s steps) (walk_of s steps moves).point (record { moves = r.moves; end = r.walk })
+  pub exchanged : LawfulRun (written s) steps (exchange_of s steps).offers (exchange_in r)
+  pub exchanged_alone : AloneRun (written s) steps (exchange_of s steps).offers (exchange_in r)
+  pub walked : Lawful (written s) moves (start_of s steps) (walk_of s steps moves).point (walk_in r)
+  pub walked_alone : Alone (written s) moves (start_of s steps) (walk_of s steps moves).point (walk_in r)

@@ -31,16 +31,27 @@ module _ (g a h b : Grid) (x : Numbers) (agree : Agrees (stated h b x) (stated g
       (first_same (keeps_row (stated h b x) (places z)) (keeps_row (stated g a x) (places z)) x.rows
       (λ i l. ap (between (places x.lo i) (places x.hi i)) (same_row (stated h b x) (stated g a x) agree (places z) i l)))
 
-  pub same_point : (z : List ℤ) (held : Option ℤ) →
+  same_point : (z : List ℤ) (held : Option ℤ) →
       unless (point_refusal (stated h b x) z) (below held (cost (stated h b x) (places z))) ≡ unless (point_refusal (stated g a x) z) (below held (cost (stated g a x) (places z)))
   same_point z held =
       ap (λ (o : Option Refusal). unless (option_or (length_refusal x.ropes (length z)) (option_or (limit_refusal 32768 0 z) (option_or (bound_refusal (stated g a x) (places z)) o))) (below held (cost (stated h b x) (places z)))) (same_rows z)
       ∙ ap (λ (q : ℤ). unless (point_refusal (stated g a x) z) (below held q)) (same_cost (stated h b x) (stated g a x) agree (places z))
 
-  pub same_pair : (q : Pair) (held : ℤ) →
+  same_pair : (q : Pair) (held : ℤ) →
       unless (pair_refusal (stated h b x) q) (above held (floor_of (stated h b x) q)) ≡ unless (pair_refusal (stated g a x) q) (above held (floor_of (stated g a x) q))
   same_pair q held =
       ap (λ (v : ℤ). unless (pair_refusal (stated g a x) q) (above held v)) (same_floor (stated h b x) (stated g a x) agree (places q.point) (places q.multipliers))
+
+  -- and so it is where the numbers beside the tables are those that were read
+  pub judged_point_same : (y : Numbers) → y ≡ x → (z : List ℤ) (held : Option ℤ) (r : Result (Option ℤ) Refusal) →
+      r ≡ unless (point_refusal (stated h b y) z) (below held (cost (stated h b y) (places z))) → r ≡ unless (point_refusal (stated g a x) z) (below held (cost (stated g a x) (places z)))
+  judged_point_same y e z held r er =
+      er ∙ ap (λ (n : Numbers). unless (point_refusal (stated h b n) z) (below held (cost (stated h b n) (places z)))) e ∙ same_point z held
+
+  pub judged_pair_same : (y : Numbers) → y ≡ x → (q : Pair) (held : ℤ) (r : Result (Option ℤ) Refusal) →
+      r ≡ unless (pair_refusal (stated h b y) q) (above held (floor_of (stated h b y) q)) → r ≡ unless (pair_refusal (stated g a x) q) (above held (floor_of (stated g a x) q))
+  judged_pair_same y e q held r er =
+      er ∙ ap (λ (n : Numbers). unless (pair_refusal (stated h b n) q) (above held (floor_of (stated h b n) q))) e ∙ same_pair q held
 
 -- the state after a point, by what it comes to beside the held one
 abbrev pub point_after : State → List ℤ → Result (Option ℤ) Refusal → State

@@ -1,5 +1,5 @@
 -- What fits at the opening of a plan.
-use Rattle.std.proofs.Common.{◌≡◌, ℕ, ◌<◌, ◌≤◌, true, ltb, leb, List, length, replicate, ℤ, pos, nat_abs, Some, None, Err, Result, inl, sym, refl, ap, ◌∙◌, subst, arith}
+use Rattle.std.proofs.Common.{◌≡◌, ℕ, ◌<◌, ◌≤◌, true, ltb, leb, List, length, replicate, ℤ, pos, nat_abs, Some, None, sym, refl, ap, ◌∙◌, subst, arith}
 use lib.ListN.{length-replicate, get_or-replicate}
 use Rattle.std.proofs.lemmas.Bool.{and_from, eq-eqb, le-leb, lt-ltb, cond-true}
 use Rattle.duality.specs.Lists.{places}
@@ -10,19 +10,10 @@ use Rattle.opening.specs.Opening.{Numbers, open_fault}
 use Rattle.opening.specs.Fits.{Fits, Ordered}
 use Rattle.opening.proofs.Fitting.{tells_fit}
 use Rattle.terms.specs.Numbers.{numbers, fitting, sizes, limited}
-use Rattle.opening.specs.declared.refusal.Refusal.{Refusal}
-use Rattle.opening.specs.Firsts.{unless}
-use Rattle.calls.specs.States.{State}
-use Rattle.calls.specs.Opened.{Opens}
 use Rattle.reasons.proofs.Fitting.{near_all, near_many}
-use Rattle.plan.proofs.Refused.{refused_for}
 
 ordered_all : (lows highs : List ℤ) → Ordered lows highs → in_order lows highs ≡ true
 ordered_all lows highs h = all_from _ (length lows) (λ k l. le_le_z (places lows k) (places highs k) (h k l))
-
--- what is told where the check refuses
-pub opens_refused : {P X : Type 0} (u : X) (v : P → State) (g a : Grid) (x : Numbers) (r : Result P Refusal) (e : Refusal) → r ≡ Err e → Err e ≡ unless (open_fault g a x) u → Opens v g a x r
-opens_refused u v g a x r e er q = subst (Opens v g a x) (sym er) (inl (refused_for (open_fault g a x) u e q))
 
 pub fits_of : (g a : Grid) (x : Numbers) → open_fault g a x ≡ None → Fits g a x
 fits_of g a x e = (tells_fit g a x (open_fault g a x) refl).fits e

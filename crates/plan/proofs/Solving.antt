@@ -37,15 +37,12 @@ found_took s x os ps = ap (took_all s) (found_append x os ps) ∙ took_append s 
 
 -- a point that a step found lies inside the bounds
 pub step_inside : (P : Problem) (x : Numbers) (st : Step) (z z' : List ℤ) → x.ropes ≡ P.ropes → OffersInside P st → is_in_bounds P z ≡ true → z' ≡ last_found x z (offers_of st) → is_in_bounds P z' ≡ true
-step_inside P x step.Refused z z' e law old ez = ap (is_in_bounds P) ez ∙ old
 step_inside P x step.Stuck z z' e law old ez = ap (is_in_bounds P) ez ∙ old
 step_inside P x (step.Found o ch) z z' e law old ez =
     ap (is_in_bounds P) (ez ∙ ap (λ (n : ℕ). take n o.point) e) ∙ in_bounds_in P (take P.ropes o.point) law.0
 
 -- a run of the exchange after k of B steps: from s₀ and z₀ to s and z, with what is left to do
-pub record Exchanging (P : Problem) (B k : ℕ) (s₀ s : State) (z₀ z : List ℤ) (n m : ℕ) (ms : List Member) (f : Float) : Type 0 where
-  pub ropes : P.ropes ≡ n
-  pub rows : P.rows ≡ m
+pub record Exchanging (P : Problem) (B k : ℕ) (s₀ s : State) (z₀ z : List ℤ) (ms : List Member) (f : Float) : Type 0 where
   pub numbers : s.numbers ≡ s₀.numbers
   pub taken : took_all s (found_offers s₀.numbers (run_from (B - k) P ms f).offers) ≡ took_all s₀ (found_offers s₀.numbers (exchanged P B).offers)
   pub last : last_found s₀.numbers z (run_from (B - k) P ms f).offers ≡ last_found s₀.numbers z₀ (exchanged P B).offers
@@ -54,13 +51,11 @@ pub record Exchanging (P : Problem) (B k : ℕ) (s₀ s : State) (z₀ z : List 
   pub smallest : (run_from (B - k) P ms f).smallest ≡ (exchanged P B).smallest
   pub inside : is_in_bounds P z ≡ true
 
-pub exchange_starts : (P : Problem) (B : ℕ) (s : State) (z : List ℤ) (n m : ℕ) (ms : List Member) (f : Float) → P.ropes ≡ n → P.rows ≡ m → ms ≡ [] → f ≡ largest
-    → is_in_bounds P z ≡ true → Exchanging P B 0 s s z z n m ms f
-exchange_starts P B s z n m ms f en em a b i =
+pub exchange_starts : (P : Problem) (B : ℕ) (s : State) (z : List ℤ) (ms : List Member) (f : Float) → ms ≡ [] → f ≡ largest
+    → is_in_bounds P z ≡ true → Exchanging P B 0 s s z z ms f
+exchange_starts P B s z ms f a b i =
     let r = run_starts P B ms f a b in
     record {
-      ropes = en;
-      rows = em;
       numbers = refl;
       taken = ap (λ (x : Run). took_all s (found_offers s.numbers x.offers)) r;
       last = ap (λ (x : Run). last_found s.numbers z x.offers) r;
@@ -70,8 +65,8 @@ exchange_starts P B s z n m ms f en em a b i =
       inside = i;
     }
 
-module _ (P : Problem) (B k : ℕ) (s₀ s s' : State) (z₀ z z' : List ℤ) (n m : ℕ) (ms : List Member) (f : Float) (st : Step)
-    (before : Exchanging P B k s₀ s z₀ z n m ms f) (es : s' ≡ took_all s (found_offers s.numbers (offers_of st))) (ez : z' ≡ last_found s.numbers z (offers_of st)) where
+module _ (P : Problem) (B k : ℕ) (s₀ s s' : State) (z₀ z z' : List ℤ) (ms : List Member) (f : Float) (st : Step)
+    (before : Exchanging P B k s₀ s z₀ z ms f) (es : s' ≡ took_all s (found_offers s.numbers (offers_of st))) (ez : z' ≡ last_found s.numbers z (offers_of st)) where
   x : Numbers
   x = s₀.numbers
 

@@ -4,7 +4,7 @@ ghost use Rattle.std.specs.Option.{unwrap_or};
 ghost use Rattle.job.specs.Bounds.{is_in_bounds};
 ghost use Rattle.job.specs.Numbers.{problem_of};
 ghost use Rattle.exchange.specs.Runs.{exchanged, report_of};
-ghost use Rattle.walk.specs.Laws.{Lawful};
+ghost use Rattle.walk.specs.Laws.{Lawful, Alone};
 ghost use Rattle.walk.specs.Walks.{ended, walk_from};
 ghost use Rattle.calls.specs.Offers.{took_all};
 ghost use Rattle.calls.specs.Steps.{unless};
@@ -15,6 +15,7 @@ ghost use Rattle.plan.specs.Standing.{Stands};
 ghost use Rattle.plan.specs.View.{view};
 
 use crate::bests::Bests;
+use crate::evaluates::copied;
 use crate::state::Plan;
 use arrayvec::ArrayVec;
 use calls::Report;
@@ -23,7 +24,7 @@ use job::Job;
 use opening::Refusal;
 use reading::read_job;
 use table::Table;
-use terms::{MOST_ROPES, placed};
+use terms::MOST_ROPES;
 use walk::{Walked, walk};
 
 const MOST_STEPS: u64 = 1_000;
@@ -59,6 +60,7 @@ fn walk_down(job: &Job, at: &mut [i64], budget: u32) -> Walked
     requires { is_in_bounds (problem_of job.now) at.old ≡ true }
     ensures value { ended at.new result ≡ walk_from (problem_of job.now) budget at.old }
     ensures law { Lawful (problem_of job.now) budget at.old at.new result }
+    ensures alone { Alone (problem_of job.now) budget at.old at.new result }
 {
     walk(job, at, budget).unwrap()
 }
@@ -116,7 +118,7 @@ impl<G: Table, A: Table> Plan<G, A> {
     {
         let job = read_job(&self.g, &self.a, &self.terms);
         let mut bests = self.bests();
-        let mut point: ArrayVec<i64, MOST_ROPES> = placed(&job.terms.l);
+        let mut point: ArrayVec<i64, MOST_ROPES> = copied(&job.terms.l);
         let at = point.as_mut_slice();
         let exchanged = self.run_exchange(&job, &mut bests, at, budgets.steps);
         self.start_from(at);
