@@ -12,6 +12,11 @@ pub refused_for : {X : Type 0} (o : Option Refusal) (v : X) (e : Refusal) → Er
 refused_for None v e q = let z : ◌≡◌ {A = ℕ} 0 1 = cc in absurd (omega arith)
 refused_for (Some r) v e q = let z : e ≡ r = cc in ap Some (sym z)
 
+-- and one that does not is what was to be answered
+pub given_of : {X : Type 0} (o : Option Refusal) (v w : X) → Ok w ≡ unless o v → w ≡ v
+given_of None v w q = cc
+given_of (Some r) v w q = let z : ◌≡◌ {A = ℕ} 0 1 = cc in absurd (omega arith)
+
 -- the answer is the same in another place where the same is refused
 
 pub refused_same : {X Y : Type 0} (o : Option Refusal) (v : X) (w : Y) (e : Refusal) → Err e ≡ unless o v → Err e ≡ unless o w

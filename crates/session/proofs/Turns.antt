@@ -1,5 +1,5 @@
 -- A run of calls, turn by turn.
-use Rattle.std.proofs.Common.{◌≡◌, ℕ, ◌+◌, ◌<◌, ◌≤◌, List, [], ◌∷◌, ◌++◌, map, length, get_or, take, drop, ℤ, IsErrAnd, None, Ok, Err, Result, sym, refl, ap, ◌∙◌, subst, inr, arith}
+use Rattle.std.proofs.Common.{◌≡◌, ℕ, ◌+◌, ◌<◌, ◌≤◌, List, [], ◌∷◌, ◌++◌, map, length, get_or, take, drop, ℤ, IsErrAnd, Some, None, Ok, Err, Result, sym, refl, ap, ◌∙◌, subst, inl, inr, arith}
 use lib.ListN.{length-map}
 use lib.Seq.{take-append-le}
 use Rattle.std.proofs.lemmas.List.{map-append, take-map, take_more, take_all}
@@ -101,6 +101,10 @@ pub session_answers : (g a : Grid) (x : Numbers) (ms : List calls.Call) (s t : S
     → AnswersCalls s ms r t → AnswersSession g a x ms r
 session_answers g a x ms s t (Ok v) e es h = (e, h.0 ∙ ap (λ (u : State). replies u ms) es)
 session_answers g a x ms s t (Err f) e es h = inr (e, h.0)
+
+pub session_refused : (g a : Grid) (x : Numbers) (ms : List calls.Call) (r : Result (Vec Answer) Refusal) (e : Refusal) → r ≡ Err e → open_fault g a x ≡ Some e
+    → AnswersSession g a x ms r
+session_refused g a x ms r e er h = subst (AnswersSession g a x ms) (sym er) (inl h)
 
 pub session_honest : (g a : Grid) (x : Numbers) (ms : List calls.Call) (s : State) (r : Result (Vec Answer) Refusal) → open_fault g a x ≡ None → s ≡ opened g a x
     → HonestAnswers s ms r → HonestSession (opened g a x) ms r

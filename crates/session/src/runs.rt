@@ -1,6 +1,5 @@
 //! Calls made in turn.
 ghost use Rattle.std.specs.Prelude.{map};
-ghost use Rattle.calls.specs.Histories.{solve};
 ghost use Rattle.plan.specs.View.{view};
 ghost use Rattle.session.specs.Said.{call_of};
 ghost use Rattle.session.specs.Answering.{AnswersCall, AnswersCalls, HonestAnswers, LeftAfter};
@@ -10,21 +9,6 @@ use opening::Refusal;
 use plan::Plan;
 use std::alloc::Global;
 use table::Table;
-
-/// Makes a solve. A refused budget is an answer like others.
-fn make_solve<G: Table, A: Table>(
-    plan: &mut Plan<G, A>,
-    heap: Global,
-    steps: u64,
-    moves: u64,
-) -> Result<Answer, Refusal>
-    ensures { AnswersCall (view G.Table.meant A.Table.meant plan.old) (solve steps moves) result (view G.Table.meant A.Table.meant plan.new) }
-{
-    match plan.solve(heap, steps, moves) {
-        Err(Refusal::Memory) => Err(Refusal::Memory),
-        answer => Ok(Answer::Solved(answer)),
-    }
-}
 
 /// Makes one call. Where there is no memory for it the plan stays as it stood.
 fn make<G: Table, A: Table>(
@@ -39,7 +23,7 @@ fn make<G: Table, A: Table>(
         Call::Floor(pair) => Ok(Answer::Judged(plan.floor(*pair))),
         Call::Proof(y) => Ok(Answer::Judged(plan.proof(y))),
         Call::Amend(amendment) => Ok(Answer::Amended(plan.amend(*amendment))),
-        Call::Solve { steps, moves } => make_solve(plan, heap, *steps, *moves),
+        Call::Solve { steps, moves } => Ok(Answer::Solved(plan.solve(*steps, *moves))),
         Call::Show(list) => {
             let mut out = Vec::from_slice(heap, list)?;
             let shown = plan.show(out.as_mut_slice());

@@ -33,6 +33,6 @@ pub fn session<G: Table + Drop, A: Table + Drop>(
     ensures value { AnswersSession (G.Table.meant g) (A.Table.meant a) (numbers_of lists.now) (map call_of calls.now) result }
     ensures law { HonestSession (opened (G.Table.meant g) (A.Table.meant a) (numbers_of lists.now)) (map call_of calls.now) result }
 {
-    let mut plan = Plan::open(heap, g, a, lists)?;
+    let mut plan = Plan::open(g, a, lists)?;
     run(&mut plan, heap, calls)
 }
