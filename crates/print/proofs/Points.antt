@@ -1,5 +1,5 @@
 -- The point that is shown has few numbers, and none too far.
-use Rattle.std.proofs.Common.{◌≡◌, ℕ, zero, suc, ◌≤◌, Bool, true, false, cond, eqb, leb, List, length, take, replicate, ℤ, pos, Some, None, Ok, Err, Option, vec_len, sym, refl, ap, ◌∙◌, arith}
+use Rattle.std.proofs.Common.{◌≡◌, ℕ, zero, suc, ◌≤◌, Bool, true, false, cond, eqb, leb, List, length, take, replicate, ℤ, pos, Some, None, Ok, Err, Option, sym, refl, ap, ◌∙◌, arith}
 use Rattle.std.proofs.lemmas.List.{length-replicate, get_or-replicate, take-replicate}
 use Rattle.std.proofs.lemmas.Bool.{and_parts, and_from, eq-eqb, eqb-true, le-leb}
 use Rattle.duality.specs.Lists.{places}
@@ -55,7 +55,7 @@ shown_near proof point n = by (eqb (length (replicate n (pos 0))) n) proof point
 
 pub shown_passes : {G A : Type 0} {ofG : Ghosts G} {ofA : Ghosts A} (mg : G → Grid) (ma : A → Grid) (p : Plan G A ofG ofA) (z : List ℤ) → z ≡ point_of (view mg ma p) → point_check z ≡ Ok tt
 shown_passes mg ma p z e =
-    let n = vec_len p.terms.c in
+    let n = length p.terms.c.items in
     point_passes n z p.terms.some.1 (ap (many_within n 32768) e ∙ shown_near p.proof p.point n p.pulls)
 
 pub text_is : (r : Report) (s : State) (v : Shown) (z : List ℤ) → v ≡ shown s → z ≡ point_of s → sheet_text r v z ≡ plan_text r s
