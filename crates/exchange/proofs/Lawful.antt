@@ -13,6 +13,8 @@ use Rattle.elimination.specs.Lines.{largest}
 use Rattle.elimination.specs.Runs.{Least, Takable, sizes}
 use Rattle.elimination.specs.declared.pivots.Pivot.{Pivot}
 use Rattle.exchange.specs.Systems.{system_of}
+use Rattle.exchange.specs.Breaches.{Apart}
+use Rattle.exchange.proofs.Sets.{apart_push, apart_removed}
 use Rattle.exchange.specs.Steps.{solved_at, step_at, members_after, StepMeans, LawfulStep}
 use Rattle.exchange.specs.Runs.{Run, over, stepped, offers_of, end_after, after_step, run_from, exchanged, report_of}
 use Rattle.exchange.specs.Laws.{Turn, Follow, last_end, EndsAs, taken, Told, LawfulRun, AloneRun}
@@ -74,6 +76,14 @@ few_after P ms ps (Found o (Leave k)) l m = let w = m.3.1.wrong.0 in omega (arit
 few_after P ms ps (Found o Full) l m = l
 few_after P ms ps (Found o Done) l m = l
 
+-- and holds no limit twice
+apart_after : (P : Problem) (ms : List Member) (ps : List Pivot) (st : Step) → Apart ms → StepMeans P ms ps st → Apart (members_after ms st)
+apart_after P ms ps Stuck a m = a
+apart_after P ms ps (Found o (Enter w)) a m = apart_push ms w a m.3.free.1
+apart_after P ms ps (Found o (Leave k)) a m = apart_removed ms k m.3.1.wrong.0 a
+apart_after P ms ps (Found o Full) a m = a
+apart_after P ms ps (Found o Done) a m = a
+
 -- each pivot that a step takes can be taken
 means_takable : (P : Problem) (ms : List Member) (ps : List Pivot) (st : Step) → StepMeans P ms ps st → All Takable (sizes ps)
 means_takable P ms ps Stuck m = lead_takable _ 0 ps (system_of P ms) m.0 m.1
@@ -117,14 +127,14 @@ module _ (P : Problem) (ordered : Ordered P) where
     taken_after (Found o Full) t next h k = halts (Found o Full) t h end.Full refl
     taken_after (Found o Done) t next h k = halts (Found o Done) t h end.Done refl
 
-  taken_from : (b : ℕ) (ms : List Member) (s : Float) → length ms ≤ P.ropes → NotNan s → Taken P b ms s (run_from b P ms s)
-  taken_from zero ms s l n = record { turns = []; follow = tt; counted = refl; within_budget = omega arith; offered = refl; ends = (refl, refl); smallest = least_alone s }
-  taken_from (suc b) ms s l n =
+  taken_from : (b : ℕ) (ms : List Member) (s : Float) → length ms ≤ P.ropes → Apart ms → NotNan s → Taken P b ms s (run_from b P ms s)
+  taken_from zero ms s l a n = record { turns = []; follow = tt; counted = refl; within_budget = omega arith; offered = refl; ends = (refl, refl); smallest = least_alone s }
+  taken_from (suc b) ms s l a n =
       let st = step_at P ms s in
       let t = (solved_at P ms s).0 in
-      let h = step_lawful P ms l ordered s st t refl refl in
+      let h = step_lawful P ms l a ordered s st t refl refl in
       taken_after b ms s n st t (run_from b P) h
-      (taken_from b (members_after ms st) t (few_after P ms h.pivots st l h.means) (least_number s (sizes h.pivots) t h.smallest (means_takable P ms h.pivots st h.means) n))
+      (taken_from b (members_after ms st) t (few_after P ms h.pivots st l h.means) (apart_after P ms h.pivots st a h.means) (least_number s (sizes h.pivots) t h.smallest (means_takable P ms h.pivots st h.means) n))
 
   -- two runs of the same budget take the same turns
   abbrev Whole : ℕ → List Turn → Type 0
@@ -174,7 +184,7 @@ module _ (j : Job) (b : ℕ) (r : Report) (e : r ≡ report_of (exchanged (probl
   unfolding exchanged
   lawful_run =
       let L : Report → Type 0 = LawfulRun (problem_of j) b (exchanged (problem_of j) b).offers in
-      let t = taken_from (problem_of j) (job_ordered j) b [] largest (omega arith) largest_number in
+      let t = taken_from (problem_of j) (job_ordered j) b [] largest (omega arith) (λ k d l. absurd (omega arith)) largest_number in
       subst L (sym e)
       (record {
         turns = t.turns;

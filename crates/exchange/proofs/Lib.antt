@@ -12,3 +12,4 @@ pub mod Running
 pub mod Offering
 pub mod Lawful
 pub mod Writing
+pub mod OfferLaw

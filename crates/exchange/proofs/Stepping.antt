@@ -9,14 +9,14 @@ use Rattle.std.proofs.lemmas.List.{take_at, length-take-le, length-append, lengt
 use Rattle.std.specs.Option.{option_map}
 use Rattle.duality.specs.Problem.{Problem}
 use Rattle.elimination.specs.Lines.{seen, at, inside, solved, left, solved_in, padded, Solves}
-use Rattle.elimination.specs.Runs.{Elimination, Least, sizes}
+use Rattle.elimination.specs.Runs.{Elimination, Unknowns, Least, sizes}
 use Rattle.elimination.specs.declared.pivots.Pivot.{Pivot}
 use Rattle.elimination.proofs.Clearing.{AllLong}
 use Rattle.elimination.proofs.Ending.{is_run}
 use Rattle.elimination.proofs.Only.{one_solution}
 use Rattle.elimination.proofs.Seen.{solved_seen}
 use Rattle.exchange.specs.Systems.{size_of, rope_line, member_line, floats, system_of}
-use Rattle.exchange.specs.Meanings.{Means}
+use Rattle.exchange.specs.Meanings.{OfferOf, Means}
 use Rattle.exchange.specs.Offers.{offered, pulls_of, pressures_of}
 use Rattle.exchange.specs.Steps.{solved_at, choice_at, found, step_at, Solution, StepMeans, LawfulStep}
 use Rattle.exchange.specs.declared.members.Member.{Member}
@@ -24,6 +24,9 @@ use Rattle.exchange.specs.declared.members.Offer.{Offer}
 use Rattle.exchange.specs.declared.members.Choice.{Choice}
 use Rattle.exchange.specs.declared.members.Step.{Step}
 use Rattle.exchange.specs.declared.members.Step.TheVariants.{Stuck, Found}
+use Rattle.exchange.specs.Breaches.{Apart}
+use Rattle.exchange.proofs.OfferLaw.{offer_made, offer_only}
+use Rattle.exchange.proofs.Readings.{pulls_long, pressures_long}
 use Rattle.exchange.proofs.Meanings.{Ordered, chosen_means, same_choice}
 
 abbrev pub Pair : Type 0
@@ -73,6 +76,13 @@ line_long xs ys z n m a b =
     let e = length-map (xs ++ (ys ++ z ∷ [])) (of_int binary64) in
     omega (arith, e, length-append xs (ys ++ z ∷ []), length-append ys (z ∷ []), a, b)
 
+system_size : (P : Problem) (ms : List Member) → length (system_of P ms) ≡ size_of P ms
+unfolding system_of
+system_size P ms =
+    let f : ℕ → List Float = λ r. floats (rope_line P ms r) in
+    let g : Member → List Float = λ v. floats (member_line P ms v) in
+    length-append (map f (range_with_len 0 P.ropes)) (map g ms) ∙ omega (arith, length-map-range_with_len f 0 P.ropes, length-map ms g)
+
 pub system_long : (P : Problem) (ms : List Member) → AllLong (length (system_of P ms) + 1) (system_of P ms)
 unfolding system_of
 system_long P ms i l =
@@ -97,6 +107,11 @@ module _ (P : Problem) (ms : List Member) (s : Float) where
   pub step_found : (us : List Float) (o : Offer) (ch : Choice) → (solved_at P ms s).1 ≡ Some us → o ≡ offered P ms us → ch ≡ choice_at P ms us → Found o ch ≡ step_at P ms s
   step_found us o ch e p q = rw (e, p, q)
 
+-- as many unknowns as lines
+unknowns_long : (n k : ℕ) (ls : List (List Float)) (xs : List Float) → Unknowns n k ls xs → k + length xs ≡ n
+unknowns_long n k ls [] h = omega arith
+unknowns_long n k ls (x ∷ xs) h = omega (arith, unknowns_long n (suc k) ls xs h.2)
+
 module _ (P : Problem) (ms : List Member) where
   -- what is solved is brought to its end by some pivots
   module _ (s : Float) where
@@ -106,9 +121,20 @@ module _ (P : Problem) (ms : List Member) where
     solution_at : Solution P ms whole.pivots (solved_at P ms s).1
     solution_at = (left s (system_of P ms), whole.columns, whole.end)
 
-  found_means : (few : length ms ≤ P.ropes) (ps : List Pivot) (o : Option (List Float)) → Solution P ms ps o → StepMeans P ms ps (found P ms o)
-  found_means few ps None h = h
-  found_means few ps (Some us) h = (us, h, refl, chosen_means P ms (pulls_of P us) (pressures_of P us) few)
+  -- there is an unknown for each rope and each member
+  long : (ps : List Pivot) (us : List Float) → Solution P ms ps (Some us) → length us ≡ P.ropes + length ms
+  long ps us h = omega (arith, unknowns_long (length (system_of P ms)) 0 h.0 us h.2.1, system_size P ms)
+
+  found_means : (few : length ms ≤ P.ropes) → Apart ms → Ordered P → (ps : List Pivot) (o : Option (List Float)) → Solution P ms ps o → StepMeans P ms ps (found P ms o)
+  unfolding offered
+  found_means few apart ordered ps None h = h
+  found_means few apart ordered ps (Some us) h =
+      let l = long ps us h in (
+        us,
+        h,
+        offer_made P ms (pulls_of P us) (pressures_of P us) (pulls_long P.ropes (length ms) us l) (pressures_long P.ropes (length ms) us l) ordered apart,
+        chosen_means P ms (pulls_of P us) (pressures_of P us) few,
+      )
 
   one_answer : (ps qs : List Pivot) (us vs : Option (List Float)) → Solution P ms ps us → Solution P ms qs vs → (vs ≡ us) × (qs ≡ ps)
   one_answer ps qs us vs f g = let r = one_solution (system_of P ms) f.0 g.0 ps qs us vs f.1 f.2 g.1 g.2 in (r.1, r.2)
@@ -124,13 +150,16 @@ module _ (P : Problem) (ms : List Member) where
       let e : n.0 ≡ m.0 = cc in
       let M : List Float → Type 0 = λ us. Means P ms (pulls_of P us) (pressures_of P us) c in
       let f = same_choice P ms (pulls_of P m.0) (pressures_of P m.0) ordered c ch (subst M e n.3) m.3 in
-      let g : p ≡ o = n.2 ∙ ap (offered P ms) e ∙ sym m.2 in
+      let l = long ps m.0 m.1 in
+      let only = offer_only P ms (pulls_of P m.0) (pressures_of P m.0) (pulls_long P.ropes (length ms) m.0 l) (pressures_long P.ropes (length ms) m.0 l) ordered in
+      let O : List Float → Type 0 = λ us. OfferOf P ms (pulls_of P us) (pressures_of P us) p in
+      let g : p ≡ o = only p (subst O e n.2) ∙ sym (only o m.2) in
       (r.1, ap (λ x. Found x c) g ∙ ap (λ x. Found o x) f)
 
-  pub step_lawful : length ms ≤ P.ropes → Ordered P → (s : Float) (st : Step) (t : Float) → st ≡ step_at P ms s → t ≡ (solved_at P ms s).0 → LawfulStep P ms s st t
-  step_lawful few ordered s st t e f =
+  pub step_lawful : length ms ≤ P.ropes → Apart ms → Ordered P → (s : Float) (st : Step) (t : Float) → st ≡ step_at P ms s → t ≡ (solved_at P ms s).0 → LawfulStep P ms s st t
+  step_lawful few apart ordered s st t e f =
       let w = whole s in
       let S : Step → Type 0 = StepMeans P ms w.pivots in
-      let m = subst S (sym e) (found_means few w.pivots (solved_at P ms s).1 (solution_at s)) in
+      let m = subst S (sym e) (found_means few apart ordered w.pivots (solved_at P ms s).1 (solution_at s)) in
       let L : Float → Type 0 = Least (s ∷ sizes w.pivots) in
       record { pivots = w.pivots; means = m; smallest = subst L (sym f) w.size; alone = λ ps x h. same_step ordered w.pivots ps st x m h }

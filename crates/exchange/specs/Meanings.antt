@@ -1,7 +1,8 @@
--- What a choice means, in the words of the problem P: z are the rounded pulls, ms the working set, and ys the rounded multipliers of its members.
-use Rattle.std.specs.Prelude.{◌≡◌, ℕ, ◌<◌, ◌≤◌, false, List, length, ℤ, pos, ◌≤ℤ◌, ◌<ℤ◌, unsigned_abs}
+-- What a choice and an offer mean, in the words of the problem P: z are the rounded pulls, ms the working set, and ys the rounded multipliers of its members.
+use Rattle.std.specs.Prelude.{◌≡◌, ℕ, ◌-◌, ◌<◌, ◌≤◌, false, List, length, take, drop, replicate, ℤ, pos, ◌-ℤ◌, ◌≤ℤ◌, ◌<ℤ◌, unsigned_abs}
 use Rattle.duality.specs.Lists.{places}
 use Rattle.duality.specs.Problem.{Problem}
+use Rattle.job.specs.Bounds.{HeldInside}
 use Rattle.exchange.specs.Members.{Of, low, high}
 use Rattle.exchange.specs.Systems.{member_at}
 use Rattle.exchange.specs.Breaches.{holds, value_at, ticks}
@@ -10,6 +11,7 @@ use Rattle.exchange.specs.declared.members.Limit.TheVariants.{Row, Bound}
 use Rattle.exchange.specs.declared.members.Side.{Side}
 use Rattle.exchange.specs.declared.members.Side.TheVariants.{Lower, Upper}
 use Rattle.exchange.specs.declared.members.Member.{Member}
+use Rattle.exchange.specs.declared.members.Offer.{Offer}
 use Rattle.exchange.specs.declared.members.Choice.{Choice}
 use Rattle.exchange.specs.declared.members.Choice.TheVariants.{Enter, Leave, Full, Done}
 
@@ -70,3 +72,18 @@ Means P ms z ys (Enter w) = Enters P ms z w
 Means P ms z ys (Leave k) = MeetsFree P ms z × Leaves ms ys k
 Means P ms z ys Full = (length ms ≡ P.ropes) × ((w : Member) × Free P ms w.limit × Breaks P z w)
 Means P ms z ys Done = MeetsFree P ms z × ((k : ℕ) → WrongAt ms ys k → ⊥)
+
+-- y held within a limit either way is w: no number within it lies nearer to y
+pub record HeldWithin (limit : ℕ) (y w : ℤ) : Type 0 where
+  pub within : unsigned_abs w ≤ limit
+  pub nearest : (v : ℤ) → unsigned_abs v ≤ limit → unsigned_abs (w -ℤ y) ≤ unsigned_abs (v -ℤ y)
+
+-- What is offered: the rounded pulls held inside the bounds, and for each row that is a member its rounded multiplier held within the limit.
+-- A row that is no member has 0, and so have the places past the ropes and the rows.
+pub record OfferOf (P : Problem) (ms : List Member) (z ys : List ℤ) (o : Offer) : Type 0 where
+  pub point : HeldInside P z (take P.ropes o.point)
+  pub rows : length (take P.rows o.multipliers) ≡ P.rows
+  pub pressed : (i k : ℕ) → i < P.rows → k < length ms → (member_at ms k).limit ≡ Row i → HeldWithin 16777216 (places ys k) (places o.multipliers i)
+  pub free : (i : ℕ) → i < P.rows → holds ms (Row i) ≡ false → places o.multipliers i ≡ pos 0
+  pub past_ropes : drop P.ropes o.point ≡ replicate (16 - P.ropes) (pos 0)
+  pub past_rows : drop P.rows o.multipliers ≡ replicate (32 - P.rows) (pos 0)

@@ -11,7 +11,7 @@ use Rattle.exchange.specs.Members.{Of}
 use Rattle.exchange.specs.Systems.{system_of}
 use Rattle.exchange.specs.Breaches.{holds}
 use Rattle.exchange.specs.Choice.{chosen}
-use Rattle.exchange.specs.Meanings.{Means}
+use Rattle.exchange.specs.Meanings.{OfferOf, Means}
 use Rattle.exchange.specs.Offers.{pulls_of, pressures_of, offered}
 use Rattle.exchange.specs.declared.members.Member.{Member}
 use Rattle.exchange.specs.declared.members.Choice.{Choice}
@@ -63,11 +63,11 @@ abbrev pub Solution : Problem → List Member → List Pivot → Option (List Fl
 Solution P ms ps us =
     (ls : List (List Float)) × Lead (length (system_of P ms) + 1) 0 ps (system_of P ms) ls × Ends (length (system_of P ms)) (length ps) ls us
 
--- What a step means that takes these pivots: stuck, that its system has no solution within the limits; and else that its choice is as it says of the rounded solution.
+-- What a step means that takes these pivots: stuck, that its system has no solution within the limits; and else that its offer and its choice are as they say of the rounded solution.
 abbrev pub StepMeans : Problem → List Member → List Pivot → Step → Type 0
 StepMeans P ms ps Stuck = Solution P ms ps None
 StepMeans P ms ps (Found o ch) =
-    (us : List Float) × Solution P ms ps (Some us) × (o ≡ offered P ms us) × Means P ms (pulls_of P us) (pressures_of P us) ch
+    (us : List Float) × Solution P ms ps (Some us) × OfferOf P ms (pulls_of P us) (pressures_of P us) o × Means P ms (pulls_of P us) (pressures_of P us) ch
 
 -- Law: a step means what it says, and no other step does; s is the smallest pivot before it, and t the least of s and those that it takes.
 pub record LawfulStep (P : Problem) (ms : List Member) (s : Float) (st : Step) (t : Float) : Type 0 where

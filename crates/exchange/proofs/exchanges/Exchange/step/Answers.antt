@@ -34,7 +34,7 @@ returns-in_default c =
       smallest = t;
       job = refl;
       inside = tt;
-      law = step_lawful P ms e.few (job_ordered j) e.smallest _ _ v t;
+      law = step_lawful P ms e.few e.apart (job_ordered j) e.smallest _ _ v t;
     }
 
 pub reading-choice-requires : goal.reading-choice-requires
@@ -98,5 +98,5 @@ returns c =
       smallest = t;
       job = c.follow.ensures.job;
       inside = subst L (sym o) (offered_inside j ms us c.reading-choice.result.1 (omega (arith, w.0, k)));
-      law = step_lawful P ms e.few (job_ordered j) e.smallest _ _ v t;
+      law = step_lawful P ms e.few e.apart (job_ordered j) e.smallest _ _ v t;
     }
