@@ -58,7 +58,10 @@ fn next_case(input: &mut &[u8], cards: &[&[u8]], buffer: &mut [u8]) -> Option<us
 
 fn report(rt: &HostRuntime, card: &[u8]) -> io::Result<()> {
     match check_card(card) {
-        Ok(sizes) => println!(rt; "sound {} {}", sizes.ropes(), sizes.rows()),
+        Ok(sound) => {
+            let sizes = sound.sizes();
+            println!(rt; "sound {} {}", sizes.ropes(), sizes.rows())
+        }
         Err(fault) => println!(rt; "{fault}"),
     }
 }

@@ -6,7 +6,6 @@ use card::{CardTable, Contents, Numbers, Sizes, check_card};
 use evaluate::{Pair, Terms, Unmet, check_rows, cost, floor, refutes};
 use opening::{Lists, Refusal, check_opening};
 use small_job::LISTS;
-use std::alloc::Global;
 use std::io;
 use table::{Flip, Record, Sum, Table, Triplets};
 
@@ -36,17 +35,17 @@ fn print_product<T: Table>(rt: &HostRuntime, table: &T, row: usize, xs: &[i64]) 
 }
 
 /// The two-rope job: G = (2, 0; 0, 2), c = (-4, -6), bounds 0 to 10, row (1, 1) from 0 to 3, slip 0.
-fn two_ropes(heap: Global) -> anyhow::Result<Contents> {
+fn two_ropes() -> anyhow::Result<Contents<'static>> {
     let sizes = Sizes::new(2, 1).ok_or_else(|| anyhow!("the two-rope job has other sizes"))?;
     let numbers = Numbers {
-        curvature: Vec::from_slice(heap, &[2, 0, 0, 2])?,
-        rows: Vec::from_slice(heap, &[1, 1])?,
-        costs: Vec::from_slice(heap, &[-4, -6])?,
-        bounds: Vec::from_slice(heap, &[0, 0, 10, 10])?,
-        limits: Vec::from_slice(heap, &[0, 3])?,
-        slip: Vec::from_slice(heap, &[0, 0, 0, 0])?,
+        curvature: &[2, 0, 0, 2],
+        rows: &[1, 1],
+        costs: &[-4, -6],
+        bounds: &[0, 0, 10, 10],
+        limits: &[0, 3],
+        slip: &[0, 0, 0, 0],
     };
-    Contents::of(sizes, numbers).ok_or_else(|| anyhow!("the two-rope job has other counts"))
+    Contents::new(sizes, numbers).ok_or_else(|| anyhow!("the two-rope job has other counts"))
 }
 
 fn sizes(rt: &HostRuntime) -> io::Result<()> {
@@ -212,7 +211,7 @@ fn zero_bytes(rt: &HostRuntime, len: usize) -> anyhow::Result<()> {
 }
 
 fn run(rt: &HostRuntime) -> anyhow::Result<()> {
-    let contents = two_ropes(rt.alloc())?;
+    let contents = two_ropes()?;
     let mut out = vec![in rt.alloc(); 255u8; 3585]?;
     if let Err(fault) = contents.write(&mut out.as_mut_slice()[0..3583]) {
         println!(rt; "{fault}")?;
