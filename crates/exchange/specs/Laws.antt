@@ -58,4 +58,6 @@ pub record LawfulRun (P : Problem) (budget : ℕ) (offers : List Offer) (r : Rep
 
 -- No other offers, steps and end keep to that, and no smallest pivot that is less or more.
 abbrev pub AloneRun : Problem → (budget : ℕ) → List Offer → Report → Type 0
-AloneRun P budget offers r = (os : List Offer) (q : Report) → LawfulRun P budget os q → (os ≡ offers) × (q.steps ≡ r.steps) × (q.end ≡ r.end) × ¬ (q.smallest <ᶠ r.smallest) × ¬ (r.smallest <ᶠ q.smallest)
+AloneRun P budget offers r =
+    (os : List Offer) (q : Report) → LawfulRun P budget os q →
+    (os ≡ offers) × (q.steps ≡ r.steps) × (q.end ≡ r.end) × ¬ (q.smallest <ᶠ r.smallest) × ¬ (r.smallest <ᶠ q.smallest)
