@@ -28,15 +28,6 @@ module _ (j : Job) where
   pub a_small : (k : ℕ) → nat_abs (places j.a.items k) ≤ 1048576
   a_small k = within_at 1048576 j.a.items k j.weights.1
 
-  pub a_there : (i k : ℕ) → i < (problem_of j).rows → k < (problem_of j).ropes → k * (problem_of j).rows + i < length j.a.items
-  a_there i k l m = omega (arith, place_within k (problem_of j).ropes (problem_of j).rows i m l, j.weights.0)
-
-  pub a_at : (i k : ℕ) (xs : List ℤ) → xs ≡ j.a.items → back (places xs (k * (problem_of j).rows + i)) ≡ (problem_of j).A i k
-  a_at i k xs e = item_back 1048576 xs j.a.items (k * (problem_of j).rows + i) e (a_small (k * (problem_of j).rows + i)) (lit< tt)
-
-  pub g_there : (i k : ℕ) → i < (problem_of j).ropes → k < (problem_of j).ropes → i * (problem_of j).ropes + k < length j.g.items
-  g_there i k l m = omega (arith, place_within i (problem_of j).ropes (problem_of j).ropes k l m, j.matrix.0)
-
   pub g_at : (i k : ℕ) (xs : List ℤ) → xs ≡ j.g.items → back (places xs (i * (problem_of j).ropes + k)) ≡ (problem_of j).G i k
   g_at i k xs e = item_back 1048576 xs j.g.items (i * (problem_of j).ropes + k) e (g_small (i * (problem_of j).ropes + k)) (lit< tt)
 
@@ -50,16 +41,22 @@ module _ (j : Job) (z : List ℤ) (limit : ℕ) (le : limit ≤ 1073741824) (p :
   small : (k : ℕ) → nat_abs (places z k) ≤ 1073741824
   small k = omega (arith, many_small (problem_of j).ropes limit z p k)
 
+  -- the table ys, as it is lent, is read from start on
+  reads : (xs ys : List ℤ) (start stride : ℕ) → xs ≡ ys → ((k : ℕ) → nat_abs (places ys k) ≤ 1048576) →
+      ((k : ℕ) → k < (problem_of j).ropes → start + k * stride < length ys) → Reads xs start stride z
+  reads xs ys start stride e near there =
+      rw e
+      (record {
+        few = few;
+        inside = λ k h. there k (omega (arith, long));
+        xs_small = near;
+        z_small = small;
+      })
+
   -- m or n as the program asked for them
   pub reads_row : (i m : ℕ) (xs : List ℤ) → i < (problem_of j).rows → m ≡ (problem_of j).rows → xs ≡ j.a.items → Reads xs i m z
   reads_row i m xs l q e =
-      rw q
-      (record {
-        few = few;
-        inside = λ k h. omega (arith, place_within k (problem_of j).ropes (problem_of j).rows i (omega (arith, long)) l, ap length e, j.weights.0);
-        xs_small = λ k. rw e (a_small j k);
-        z_small = small;
-      })
+      rw q (reads xs j.a.items i (problem_of j).rows e (a_small j) (λ k h. omega (arith, place_within k (problem_of j).ropes (problem_of j).rows i h l, j.weights.0)))
 
   pub row_is : (i m : ℕ) (xs : List ℤ) → m ≡ (problem_of j).rows → xs ≡ j.a.items → dot (length z) (strided xs i m) (places z) ≡ row_at (problem_of j) (places z) i
   row_is i m xs q e =
@@ -70,12 +67,7 @@ module _ (j : Job) (z : List ℤ) (limit : ℕ) (le : limit ≤ 1073741824) (p :
   pub reads_along : (i n : ℕ) (xs : List ℤ) → i < (problem_of j).ropes → n ≡ (problem_of j).ropes → xs ≡ j.g.items → Reads xs (i * n) 1 z
   reads_along i n xs l q e =
       rw q
-      (record {
-        few = few;
-        inside = λ k h. omega (arith, place_within i (problem_of j).ropes (problem_of j).ropes k l (omega (arith, long)), ap length e, j.matrix.0);
-        xs_small = λ k. rw e (g_small j k);
-        z_small = small;
-      })
+      (reads xs j.g.items (i * (problem_of j).ropes) 1 e (g_small j) (λ k h. omega (arith, place_within i (problem_of j).ropes (problem_of j).ropes k l h, j.matrix.0)))
 
   pub along_is : (i n : ℕ) (xs : List ℤ) → n ≡ (problem_of j).ropes → xs ≡ j.g.items →
       dot (length z) (strided xs (i * n) 1) (places z) ≡ row (problem_of j).ropes (problem_of j).G (places z) i
@@ -89,13 +81,7 @@ module _ (j : Job) (z : List ℤ) (limit : ℕ) (le : limit ≤ 1073741824) (p :
 
   pub reads_across : (i n : ℕ) (xs : List ℤ) → i < (problem_of j).ropes → n ≡ (problem_of j).ropes → xs ≡ j.g.items → Reads xs i n z
   reads_across i n xs l q e =
-      rw q
-      (record {
-        few = few;
-        inside = λ k h. omega (arith, place_within k (problem_of j).ropes (problem_of j).ropes i (omega (arith, long)) l, ap length e, j.matrix.0);
-        xs_small = λ k. rw e (g_small j k);
-        z_small = small;
-      })
+      rw q (reads xs j.g.items i (problem_of j).ropes e (g_small j) (λ k h. omega (arith, place_within k (problem_of j).ropes (problem_of j).ropes i h l, j.matrix.0)))
 
   pub across_is : (i n : ℕ) (xs : List ℤ) → n ≡ (problem_of j).ropes → xs ≡ j.g.items →
       dot (length z) (strided xs i n) (places z) ≡ column (problem_of j).ropes (problem_of j).G (places z) i

@@ -8,7 +8,7 @@ use terms::{MOST_SQUARE, MOST_WEIGHTS, Terms};
 
 /// The numbers of a problem, within limits that keep every sum over them inside 64 bits.
 ///
-/// `g` goes row by row. `a` goes rope by rope, so that the weights of one rope in all rows lie in one run: a_ij is at `j * rows + i`.
+/// They lie in places of a fixed size, so a job takes no memory. `g` goes row by row. `a` goes rope by rope, so that the weights of one rope in all rows lie in one run: a_ij is at `j * rows + i`.
 #[derive(Drop)]
 pub struct Job {
     pub terms: Terms,
