@@ -1,28 +1,27 @@
 //! Columns cleared from the left.
 ghost use Rattle.std.specs.Prelude.{◌≡◌, ℕ, ◌<◌, ◌≤◌, ◌+◌, map, length, MatchOption};
+ghost use Rattle.std.specs.Option.{is_some};
 ghost use Rattle.elimination.specs.Lines.{less, cleared, cleared_below, column_tried, triangle_of};
 ghost use Rattle.elimination.specs.Runs.{Takes, HasNone, ClearedBy, Clears, Triangular};
 
 use crate::pivots::pivot_in_column;
 use crate::squares::LINE_PLACES;
 
-/// Brings the lines to the upper triangle, or stops at a column that has no pivot; either way the smallest size of a pivot is noted. Whether each column was done.
-pub(crate) fn eliminate(lines: &mut [[f64; LINE_PLACES]], smallest: &mut f64) -> bool
+/// Brings the lines to the upper triangle, or answers nothing at a column that has no pivot; either way the smallest size of a pivot is noted.
+pub(crate) fn eliminate(lines: &mut [[f64; LINE_PLACES]], smallest: &mut f64) -> Option<()>
     requires { length lines.old ≤ 32 }
-    ensures whole { result ≡ (triangle_of smallest.old lines.old).whole }
+    ensures whole { is_some result ≡ (triangle_of smallest.old lines.old).whole }
     ensures smallest { smallest.new ≡ (triangle_of smallest.old lines.old).least }
     ensures lines { lines.new ≡ (triangle_of smallest.old lines.old).lines }
-    ensures law { Triangular smallest.old lines.old lines.new smallest.new result }
+    ensures law { Triangular smallest.old lines.old lines.new smallest.new (is_some result) }
 {
     for k in 0..lines.len() {
-        let Some(size) = eliminate_column(lines, k) else {
-            return false;
-        };
+        let size = eliminate_column(lines, k)?;
         if size < *smallest {
             *smallest = size;
         }
     }
-    true
+    Some(())
 }
 
 /// The size of column k's pivot, once the column is cleared below it. Where no pivot can be taken the lines stay.

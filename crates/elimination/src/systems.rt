@@ -25,11 +25,8 @@ fn unknowns_of_system(
     ensures unknowns { result ≡ option_map padded (solved smallest.old lines.old).1 }
     ensures lines { lines.new ≡ left smallest.old lines.old }
 {
-    if eliminate(lines, smallest) {
-        back_substitute(lines)
-    } else {
-        None
-    }
+    eliminate(lines, smallest)?;
+    back_substitute(lines)
 }
 
 /// Solves a system of as many unknowns as there are lines, in place. A line has a coefficient for each unknown and then its right side; the places beyond go with their line.
