@@ -1,57 +1,43 @@
 //! Calls made in turn.
-ghost use Rattle.std.specs.Prelude.{map};
+ghost use Rattle.std.specs.Prelude.{◌≡◌, map};
+ghost use Rattle.calls.specs.Histories.{after};
+ghost use Rattle.calls.specs.Runs.{replies, after_all, RunLaw, LeavesAfter};
 ghost use Rattle.plan.specs.View.{view};
-ghost use Rattle.session.specs.Said.{call_of};
-ghost use Rattle.session.specs.Answering.{AnswersCall, AnswersCalls, HonestAnswers, LeftAfter};
+ghost use Rattle.session.specs.Said.{asked_of, told};
+ghost use Rattle.session.specs.Answering.{filled, answered};
 
-use crate::asks::{Answer, Call};
-use opening::Refusal;
+use crate::asks::{Answer, Asked, Call};
 use plan::Plan;
-use std::alloc::Global;
 use table::Table;
 
-/// Makes one call. Where there is no memory for it the plan stays as it stood.
-fn make<G: Table, A: Table>(
-    plan: &mut Plan<G, A>,
-    heap: Global,
-    call: &Call,
-) -> Result<Answer, Refusal>
-    ensures { AnswersCall (view G.Table.meant A.Table.meant plan.old) (call_of call.now) result (view G.Table.meant A.Table.meant plan.new) }
+/// Makes the call of a slot, and writes the answer beside it.
+fn answer<G: Table, A: Table>(plan: &mut Plan<G, A>, slot: &mut Asked)
+    ensures answer { slot.new ≡ filled (view G.Table.meant A.Table.meant plan.old) slot.old }
+    ensures after { view G.Table.meant A.Table.meant plan.new ≡ after (view G.Table.meant A.Table.meant plan.old) (asked_of slot.old) }
 {
-    match call {
-        Call::Point(z) => Ok(Answer::Judged(plan.point(z))),
-        Call::Floor(pair) => Ok(Answer::Judged(plan.floor(*pair))),
-        Call::Proof(y) => Ok(Answer::Judged(plan.proof(y))),
-        Call::Amend(amendment) => Ok(Answer::Amended(plan.amend(*amendment))),
-        Call::Solve { steps, moves } => Ok(Answer::Solved(plan.solve(*steps, *moves))),
-        Call::Show(list) => {
-            let mut out = Vec::from_slice(heap, list)?;
-            let shown = plan.show(out.as_mut_slice());
-            Ok(Answer::Shown(shown, out))
-        }
-    }
+    let answer = match &mut slot.call {
+        Call::Point(z) => Answer::Judged(plan.point(z)),
+        Call::Floor(pair) => Answer::Judged(plan.floor(*pair)),
+        Call::Proof(y) => Answer::Judged(plan.proof(y)),
+        Call::Amend(amendment) => Answer::Amended(plan.amend(*amendment)),
+        Call::Solve { steps, moves } => Answer::Solved(plan.solve(*steps, *moves)),
+        Call::Show(out) => Answer::Shown(plan.show(out)),
+    };
+    slot.answer = Some(answer);
 }
 
-/// Makes the calls in turn, and gives one answer for each. A call that is refused is answered like any other, and the run goes on.
+/// Makes the calls in turn, and answers each in its slot. A call that is refused is answered like any other, and the run goes on.
 ///
 /// Answers and plan are, call by call, those of the definitions. Whatever opening and whatever calls led to the plan, what each show of the run tells
 /// is honest about the numbers in force by then and the offers made since the last amendment, those of earlier runs among them.
-/// The room for the answers is taken before the first call. Only want of memory ends a run early, with the plan as some first calls left it.
-pub fn run<G: Table, A: Table>(
-    plan: &mut Plan<G, A>,
-    heap: Global,
-    calls: &[Call],
-) -> Result<Vec<Answer>, Refusal>
-    ensures value { AnswersCalls (view G.Table.meant A.Table.meant plan.old) (map call_of calls.now) result
-        (view G.Table.meant A.Table.meant plan.new) }
-    ensures law { HonestAnswers (view G.Table.meant A.Table.meant plan.old) (map call_of calls.now) result }
-    ensures left { LeftAfter (view G.Table.meant A.Table.meant plan.old) (map call_of calls.now) result (view G.Table.meant A.Table.meant plan.new) }
+pub fn run<G: Table, A: Table>(plan: &mut Plan<G, A>, asked: &mut [Asked])
+    ensures answers { asked.new ≡ answered (view G.Table.meant A.Table.meant plan.old) asked.old }
+    ensures told { told asked.new ≡ replies (view G.Table.meant A.Table.meant plan.old) (map asked_of asked.old) }
+    ensures after { view G.Table.meant A.Table.meant plan.new ≡ after_all (view G.Table.meant A.Table.meant plan.old) (map asked_of asked.old) }
+    ensures law { RunLaw (view G.Table.meant A.Table.meant plan.old) (map asked_of asked.old) (told asked.new) }
+    ensures left { LeavesAfter (view G.Table.meant A.Table.meant plan.old) (map asked_of asked.old) (view G.Table.meant A.Table.meant plan.new) }
 {
-    let mut answers = Vec::with_capacity(heap, calls.len())?;
-    // A collect would take memory between the calls.
-    for call in calls {
-        let answer = make(plan, heap, call)?;
-        answers.push_reserved(answer);
+    for slot in asked {
+        answer(plan, slot);
     }
-    Ok(answers)
 }
