@@ -2,8 +2,10 @@
 //!
 //!   target/both NAME=FILE..
 //!
-//! docs/BENCH.md has the commands that build it. Every text and the 64 bits of every smallest pivot must be the same, in each round. A time is the
-//! processor time of one round over all cards of a file. Of times, and of the ratios of the two times in a round, the median counts.
+//! docs/BENCH.md has the commands that build it, with the library of another state too where `--cfg before` is given. Every text and the 64 bits of
+//! every smallest pivot must be the same, in each round. A time is the processor time of one round over all cards of a file. Of times, and of the
+//! ratios of the proved side's time to another's in a round, the median counts.
+#![allow(unexpected_cfgs)] // `before` is given by hand
 
 mod card;
 mod cards;
@@ -86,20 +88,34 @@ fn other(card: &[u8], text: &mut Vec<u8>) -> Option<u64> {
     whole::show(card, text).expect("a list of bytes takes all").map(f64::to_bits)
 }
 
+type Show = fn(&[u8], &mut Vec<u8>) -> Option<u64>;
+
+/// The proved side first, and what it is compared with.
+const SIDES: &[(&str, Show)] = &[
+    ("proved", proved::show),
+    ("other", other),
+    #[cfg(before)]
+    ("before", proved::show_before),
+];
+
+/// The time of each side, and what the first told.
 struct Round {
-    ours: f64,
-    theirs: f64,
+    times: Vec<f64>,
     told: Told,
 }
 
-/// Runs both over all cards, if they agree.
+/// Runs all sides over all cards, if they agree.
 fn round(cards: &[&[u8]]) -> Result<Round, String> {
-    let (ours, told) = Told::by(proved::show, cards);
-    let (theirs, others) = Told::by(other, cards);
-    match told.first_other(&others) {
-        Some(at) => Err(format!("the two differ at card {at}")),
-        None => Ok(Round { ours, theirs, told }),
+    let mut sides = SIDES.iter().map(|(_, show)| Told::by(show, cards));
+    let (time, told) = sides.next().expect("there is a side");
+    let mut times = vec![time];
+    for (time, others) in sides {
+        if let Some(at) = told.first_other(&others) {
+            return Err(format!("two sides differ at card {at}"));
+        }
+        times.push(time);
     }
+    Ok(Round { times, told })
 }
 
 fn median(numbers: impl Iterator<Item = f64>) -> f64 {
@@ -113,10 +129,22 @@ fn row(name: &str, cards: &[&[u8]]) -> Result<String, String> {
     let told = &rounds[0].told;
     let (solved, steps, moves) = (told.solved(), told.sum("exchange"), told.sum("moves"));
     let refused = cards.len() - solved;
-    let ours = median(rounds.iter().map(|r| r.ours));
-    let theirs = median(rounds.iter().map(|r| r.theirs));
-    let ratio = median(rounds.iter().map(|r| r.ours / r.theirs));
-    Ok(format!("| {name} | {solved} | {refused} | {steps} | {moves} | {ours:.3} | {theirs:.3} | {ratio:.2} |"))
+    let mut row = format!("| {name} | {solved} | {refused} | {steps} | {moves} |");
+    for side in 0..SIDES.len() {
+        row += &format!(" {:.3} |", median(rounds.iter().map(|r| r.times[side])));
+    }
+    for side in 1..SIDES.len() {
+        row += &format!(" {:.2} |", median(rounds.iter().map(|r| r.times[0] / r.times[side])));
+    }
+    Ok(row)
+}
+
+/// The table's first line, and the one below it.
+fn head() -> String {
+    let times = SIDES.iter().map(|(name, _)| format!("{name}, s"));
+    let ratios = SIDES[1..].iter().map(|(name, _)| format!("of {name}"));
+    let cells: Vec<String> = ["cards", "solved", "refused", "steps", "moves"].map(String::from).into_iter().chain(times).chain(ratios).collect();
+    format!("| {} |\n{}|", cells.join(" | "), "|---".repeat(cells.len()))
 }
 
 fn compare(argument: &str) -> Result<String, String> {
@@ -126,7 +154,7 @@ fn compare(argument: &str) -> Result<String, String> {
 }
 
 fn main() -> ExitCode {
-    println!("| cards | solved | refused | steps | moves | proved, s | other, s | ratio |\n|---|---|---|---|---|---|---|---|");
+    println!("{}", head());
     for argument in std::env::args().skip(1) {
         match compare(&argument) {
             Ok(line) => println!("{line}"),
