@@ -1,5 +1,5 @@
 -- A run is a list of steps, each with its meaning; and no other run keeps to the law.
-use Rattle.std.proofs.Common.{◌≡◌, ℕ, zero, suc, ◌≤◌, List, [], ◌∷◌, ◌++◌, length, IsSome, Some, None, Option, unwrap_or, is_some, ◌⊎◌, inl, inr, sym, refl, ap, ◌∙◌, subst, true≢false, arith}
+use Rattle.std.proofs.Common.{◌≡◌, IfSome, ℕ, zero, suc, ◌≤◌, List, [], ◌∷◌, ◌++◌, length, Some, None, Option, ◌⊎◌, inl, inr, sym, refl, ap, ◌∙◌, subst, arith}
 use lib.Ieee.{Float}
 use Rattle.std.proofs.lemmas.List.Edits.{length-remove}
 use Rattle.std.proofs.lemmas.List.{length-append}
@@ -16,8 +16,8 @@ use Rattle.exchange.specs.Systems.{system_of}
 use Rattle.exchange.specs.Breaches.{Apart}
 use Rattle.exchange.proofs.Sets.{apart_push, apart_removed}
 use Rattle.exchange.specs.Steps.{solved_at, step_at, members_after, StepMeans, LawfulStep}
-use Rattle.exchange.specs.Runs.{Run, over, stepped, offers_of, end_after, after_step, run_from, exchanged, report_of}
-use Rattle.exchange.specs.Laws.{Turn, Follow, last_end, EndsAs, taken, Told, LawfulRun, AloneRun}
+use Rattle.exchange.specs.Runs.{Run, over, stepped, offers_of, after_step, run_from, exchanged, report_of}
+use Rattle.exchange.specs.Laws.{Turn, Due, Follow, last, EndsAs, taken, Told, LawfulRun, AloneRun}
 use Rattle.exchange.specs.declared.members.Member.{Member}
 use Rattle.exchange.specs.declared.members.Report.{Report}
 use Rattle.exchange.specs.declared.members.Choice.TheVariants.{Enter, Leave, Full, Done}
@@ -40,33 +40,22 @@ record Taken (P : Problem) (b : ℕ) (ms : List Member) (s : Float) (r : Run) : 
   pub smallest : Least (s ∷ taken turns) r.smallest
 
 -- a turn before others
-last_of : (t : Turn) (ts : List Turn) → end_after t.step ≡ None → last_end (t ∷ ts) ≡ last_end ts
-last_of t [] e = e
-last_of t (u ∷ ts) e = refl
+ends_later : (b : ℕ) (t : Turn) (ts : List Turn) (x : End) → Due t.step → EndsAs b ts x → EndsAs (suc b) (t ∷ ts) x
+ends_later b t [] end.Done d h = absurd (let e = h.1 in let z : ◌≡◌ {A = ℕ} 0 1 = cc in omega arith)
+ends_later b t [] end.Full d h = absurd (let e = h.1 in let z : ◌≡◌ {A = ℕ} 0 1 = cc in omega arith)
+ends_later b t [] end.Stuck d h = absurd (let z : ◌≡◌ {A = ℕ} 0 1 = cc in omega arith)
+ends_later b t [] end.Spent d h = (d, ap suc h.1)
+ends_later b t (u ∷ ts) end.Done d h = h
+ends_later b t (u ∷ ts) end.Full d h = h
+ends_later b t (u ∷ ts) end.Stuck d h = h
+ends_later b t (u ∷ ts) end.Spent d h = (h.0, ap suc h.1)
 
-ends_later : (b : ℕ) (t : Turn) (ts : List Turn) (x : End) → end_after t.step ≡ None → EndsAs b ts x → EndsAs (suc b) (t ∷ ts) x
-ends_later b t ts end.Done e h = last_of t ts e ∙ h
-ends_later b t ts end.Full e h = last_of t ts e ∙ h
-ends_later b t ts end.Stuck e h = last_of t ts e ∙ h
-ends_later b t ts end.Spent e h = (last_of t ts e ∙ h.0, ap suc h.1)
-
--- a step never means that the budget is used
-never_spent : (st : Step) → end_after st ≡ Some end.Spent → ⊥
-never_spent Stuck e = let z : ◌≡◌ {A = ℕ} 0 1 = cc in omega arith
-never_spent (Found o (Enter w)) e = let z : ◌≡◌ {A = ℕ} 0 1 = cc in omega arith
-never_spent (Found o (Leave k)) e = let z : ◌≡◌ {A = ℕ} 0 1 = cc in omega arith
-never_spent (Found o Full) e = let z : ◌≡◌ {A = ℕ} 0 1 = cc in omega arith
-never_spent (Found o Done) e = let z : ◌≡◌ {A = ℕ} 0 1 = cc in omega arith
-
-ends_now : (b : ℕ) (t : Turn) (x : End) → end_after t.step ≡ Some x → EndsAs (suc b) (t ∷ []) x
-ends_now b t end.Done e = e
-ends_now b t end.Full e = e
-ends_now b t end.Stuck e = e
-ends_now b t end.Spent e = absurd (never_spent t.step e)
-
-not_some : {X : Type 0} (o : Option X) → o ≡ None → IsSome o → ⊥
-not_some None e i = true≢false (sym i)
-not_some (Some x) e i = let z : ◌≡◌ {A = ℕ} 0 1 = cc in omega arith
+due_or_not : (st : Step) → Due st ⊎ ¬ (Due st)
+due_or_not Stuck = inr (λ d. d)
+due_or_not (Found o (Enter w)) = inl tt
+due_or_not (Found o (Leave k)) = inl tt
+due_or_not (Found o Full) = inr (λ d. d)
+due_or_not (Found o Done) = inr (λ d. d)
 
 -- a set that a step leaves is no larger than there are ropes
 few_after : (P : Problem) (ms : List Member) (ps : List Pivot) (st : Step) → length ms ≤ P.ropes → StepMeans P ms ps st → length (members_after ms st) ≤ P.ropes
@@ -95,11 +84,11 @@ all_takable P ms (t ∷ ts) f = All-append Takable (sizes t.pivots) (taken ts) (
 
 module _ (P : Problem) (ordered : Ordered P) where
   module _ (b : ℕ) (ms : List Member) (s : Float) (n : NotNan s) where
-    goes : (st : Step) (t : Float) (h : LawfulStep P ms s st t) (r : Run) → end_after st ≡ None → Taken P b (members_after ms st) t r → Taken P (suc b) ms s (stepped (offers_of st) r)
+    goes : (st : Step) (t : Float) (h : LawfulStep P ms s st t) (r : Run) → Due st → Taken P b (members_after ms st) t r → Taken P (suc b) ms s (stepped (offers_of st) r)
     goes st t h r e k =
         record {
           turns = record { step = st; pivots = h.pivots } ∷ k.turns;
-          follow = (h.means, λ i. absurd (not_some (end_after st) e i), k.follow);
+          follow = (h.means, λ i. absurd (i e), k.follow);
           counted = ap suc k.counted;
           within_budget = let w = k.within_budget in omega arith;
           offered = ap (λ os. offers_of st ++ os) k.offered;
@@ -107,7 +96,7 @@ module _ (P : Problem) (ordered : Ordered P) where
           smallest = least_on s (sizes h.pivots) t h.smallest (means_takable P ms h.pivots st h.means) (taken k.turns) r.smallest n k.smallest;
         }
 
-    halts : (st : Step) (t : Float) (h : LawfulStep P ms s st t) (x : End) → end_after st ≡ Some x → Taken P (suc b) ms s (stepped (offers_of st) (over x t))
+    halts : (st : Step) (t : Float) (h : LawfulStep P ms s st t) (x : End) → EndsAs (suc b) (record { step = st; pivots = h.pivots } ∷ []) x → Taken P (suc b) ms s (stepped (offers_of st) (over x t))
     halts st t h x e =
         record {
           turns = record { step = st; pivots = h.pivots } ∷ [];
@@ -115,20 +104,20 @@ module _ (P : Problem) (ordered : Ordered P) where
           counted = refl;
           within_budget = omega arith;
           offered = refl;
-          ends = ends_now b (record { step = st; pivots = h.pivots }) x e;
+          ends = e;
           smallest = least_on s (sizes h.pivots) t h.smallest (means_takable P ms h.pivots st h.means) [] t n (least_alone t);
         }
 
     taken_after : (st : Step) (t : Float) (next : List Member → Float → Run) → LawfulStep P ms s st t → Taken P b (members_after ms st) t (next (members_after ms st) t) →
         Taken P (suc b) ms s (after_step st t ms next)
     taken_after Stuck t next h k = halts Stuck t h end.Stuck refl
-    taken_after (Found o (Enter w)) t next h k = goes (Found o (Enter w)) t h _ refl k
-    taken_after (Found o (Leave i)) t next h k = goes (Found o (Leave i)) t h _ refl k
-    taken_after (Found o Full) t next h k = halts (Found o Full) t h end.Full refl
-    taken_after (Found o Done) t next h k = halts (Found o Done) t h end.Done refl
+    taken_after (Found o (Enter w)) t next h k = goes (Found o (Enter w)) t h _ tt k
+    taken_after (Found o (Leave i)) t next h k = goes (Found o (Leave i)) t h _ tt k
+    taken_after (Found o Full) t next h k = halts (Found o Full) t h end.Full (o, refl)
+    taken_after (Found o Done) t next h k = halts (Found o Done) t h end.Done (o, refl)
 
   taken_from : (b : ℕ) (ms : List Member) (s : Float) → length ms ≤ P.ropes → Apart ms → NotNan s → Taken P b ms s (run_from b P ms s)
-  taken_from zero ms s l a n = record { turns = []; follow = tt; counted = refl; within_budget = omega arith; offered = refl; ends = (refl, refl); smallest = least_alone s }
+  taken_from zero ms s l a n = record { turns = []; follow = tt; counted = refl; within_budget = omega arith; offered = refl; ends = (tt, refl); smallest = least_alone s }
   taken_from (suc b) ms s l a n =
       let st = step_at P ms s in
       let t = (solved_at P ms s).0 in
@@ -137,21 +126,28 @@ module _ (P : Problem) (ordered : Ordered P) where
       (taken_from b (members_after ms st) t (few_after P ms h.pivots st l h.means) (apart_after P ms h.pivots st a h.means) (least_number s (sizes h.pivots) t h.smallest (means_takable P ms h.pivots st h.means) n))
 
   -- two runs of the same budget take the same turns
+  abbrev Ended : List Turn → Type 0
+  Ended ts = (st : Step) × (last ts ≡ Some st) × ¬ (Due st)
+
   abbrev Whole : ℕ → List Turn → Type 0
-  Whole b ts = (length ts ≤ b) × (IsSome (last_end ts) ⊎ (length ts ≡ b))
+  Whole b ts = (length ts ≤ b) × (Ended ts ⊎ (length ts ≡ b))
 
   whole : (b : ℕ) (ts : List Turn) (x : End) → length ts ≤ b → EndsAs b ts x → Whole b ts
-  whole b ts end.Done l h = (l, inl (ap is_some h))
-  whole b ts end.Full l h = (l, inl (ap is_some h))
-  whole b ts end.Stuck l h = (l, inl (ap is_some h))
+  whole b ts end.Done l h = (l, inl (Found h.0 Done, h.1, λ d. d))
+  whole b ts end.Full l h = (l, inl (Found h.0 Full, h.1, λ d. d))
+  whole b ts end.Stuck l h = (l, inl (Stuck, h, λ d. d))
   whole b ts end.Spent l h = (l, inr h.1)
 
-  whole_later : (b : ℕ) (t : Turn) (ts : List Turn) → end_after t.step ≡ None → Whole (suc b) (t ∷ ts) → Whole b ts
-  whole_later b t ts e (l, inl i) = (omega arith, inl (ap is_some (sym (last_of t ts e)) ∙ i))
-  whole_later b t ts e (l, inr n) = (omega arith, inr (omega arith))
+  ended_later : (t : Turn) (ts : List Turn) → Due t.step → Ended (t ∷ ts) → Ended ts
+  ended_later t [] d h = let e = h.1 in let q : t.step ≡ h.0 = cc in absurd (h.2 (subst Due q d))
+  ended_later t (u ∷ ts) d h = h
+
+  whole_later : (b : ℕ) (t : Turn) (ts : List Turn) → Due t.step → Whole (suc b) (t ∷ ts) → Whole b ts
+  whole_later b t ts d (l, inl h) = (omega arith, inl (ended_later t ts d h))
+  whole_later b t ts d (l, inr n) = (omega arith, inr (omega arith))
 
   none_left : (b : ℕ) (t : Turn) (ts : List Turn) → Whole b [] → Whole b (t ∷ ts) → ⊥
-  none_left b t ts (l, inl i) w = true≢false (sym i)
+  none_left b t ts (l, inl h) w = let e = h.1 in let z : ◌≡◌ {A = ℕ} 0 1 = cc in omega arith
   none_left b t ts (l, inr n) w = let k = w.0 in omega arith
 
   same_turns : (b : ℕ) (ms : List Member) → length ms ≤ P.ropes → (xs ys : List Turn) → Follow P ms xs → Follow P ms ys → Whole b xs → Whole b ys → ys ≡ xs
@@ -164,20 +160,37 @@ module _ (P : Problem) (ordered : Ordered P) where
       let q : y ≡ x = ap (λ st. record { step = st; pivots = y.pivots }) e.1 ∙ ap (λ ps. record { step = x.step; pivots = ps }) e.0 in
       let F : Turn → Type 0 = λ t. Follow P (members_after ms t.step) ys in
       let W : Turn → Type 0 = λ t. Whole (suc b) (t ∷ ys) in
-      let I : Turn → Type 0 = λ t. IsSome (end_after t.step) → ys ≡ [] in
+      let I : Turn → Type 0 = λ t. ¬ (Due t.step) → ys ≡ [] in
       ap (λ t. t ∷ ys) q ∙ ap (λ ts. x ∷ ts)
-      (rest (end_after x.step) refl (subst F q g.2) (subst I q g.1) (subst W q w) (same_turns b (members_after ms x.step) (few_after P ms x.pivots x.step l f.0) xs ys))
+      (rest (due_or_not x.step) (subst F q g.2) (subst I q g.1) (subst W q w) (same_turns b (members_after ms x.step) (few_after P ms x.pivots x.step l f.0) xs ys))
     where
-      rest : (o : Option End) → end_after x.step ≡ o → Follow P (members_after ms x.step) ys → (IsSome (end_after x.step) → ys ≡ []) → Whole (suc b) (x ∷ ys) →
+      rest : Due x.step ⊎ ¬ (Due x.step) → Follow P (members_after ms x.step) ys → (¬ (Due x.step) → ys ≡ []) → Whole (suc b) (x ∷ ys) →
           (Follow P (members_after ms x.step) xs → Follow P (members_after ms x.step) ys → Whole b xs → Whole b ys → ys ≡ xs) → ys ≡ xs
-      rest None e p i q next = next f.2 p (whole_later b x xs e v) (whole_later b x ys e q)
-      rest (Some a) e p i q next = let t = ap is_some e in i t ∙ sym (f.1 t)
+      rest (inl d) p i q next = next f.2 p (whole_later b x xs d v) (whole_later b x ys d q)
+      rest (inr d) p i q next = i d ∙ sym (f.1 d)
 
-ending_is : (b : ℕ) (ts : List Turn) (x : End) → EndsAs b ts x → x ≡ unwrap_or (last_end ts) end.Spent
-ending_is b ts end.Done h = rw h
-ending_is b ts end.Full h = rw h
+-- the end that a last step stands for
+abbrev end_of_last : Option Step → End
+end_of_last None = end.Spent
+end_of_last (Some Stuck) = end.Stuck
+end_of_last (Some (Found o (Enter w))) = end.Spent
+end_of_last (Some (Found o (Leave k))) = end.Spent
+end_of_last (Some (Found o Full)) = end.Full
+end_of_last (Some (Found o Done)) = end.Done
+
+spent_is : (o : Option Step) → IfSome o Due → end.Spent ≡ end_of_last o
+spent_is None d = refl
+spent_is (Some Stuck) d = absurd d
+spent_is (Some (Found o (Enter w))) d = refl
+spent_is (Some (Found o (Leave k))) d = refl
+spent_is (Some (Found o Full)) d = absurd d
+spent_is (Some (Found o Done)) d = absurd d
+
+ending_is : (b : ℕ) (ts : List Turn) (x : End) → EndsAs b ts x → x ≡ end_of_last (last ts)
+ending_is b ts end.Done h = let e = h.1 in rw e
+ending_is b ts end.Full h = let e = h.1 in rw e
 ending_is b ts end.Stuck h = rw h
-ending_is b ts end.Spent h = rw h.0
+ending_is b ts end.Spent h = spent_is (last ts) h.0
 
 module _ (j : Job) (b : ℕ) (r : Report) (e : r ≡ report_of (exchanged (problem_of j) b)) where
   pub lawful_run : LawfulRun (problem_of j) b (exchanged (problem_of j) b).offers r
@@ -203,7 +216,7 @@ module _ (j : Job) (b : ℕ) (r : Report) (e : r ≡ report_of (exchanged (probl
       (whole (problem_of j) (job_ordered j) b f.turns r.end (let c = f.counted in let w = f.within_budget in omega arith) f.ends)
       (whole (problem_of j) (job_ordered j) b h.turns q.end (let c = h.counted in let w = h.within_budget in omega arith) h.ends) in
       let a : q.steps ≡ r.steps = h.counted ∙ ap length s ∙ sym f.counted in
-      let n : q.end ≡ r.end = ending_is b h.turns q.end h.ends ∙ ap (λ ts. unwrap_or (last_end ts) end.Spent) s ∙ sym (ending_is b f.turns r.end f.ends) in
+      let n : q.end ≡ r.end = ending_is b h.turns q.end h.ends ∙ ap (λ ts. end_of_last (last ts)) s ∙ sym (ending_is b f.turns r.end f.ends) in
       let T : List Turn → Type 0 = λ ts. Told (taken ts) q.smallest in
       let m = subst T s h.smallest in
       (h.offered ∙ ap (flat_map (λ t. offers_of t.step)) s ∙ sym f.offered, a, n, told_same (taken f.turns) q.smallest r.smallest m f.smallest, told_same (taken f.turns) r.smallest q.smallest f.smallest m)
