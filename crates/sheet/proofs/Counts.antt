@@ -1,8 +1,7 @@
 -- How many numbers a section has, and the lists and the job that are read off a card.
-use Rattle.std.proofs.Common.{◌≡◌, ℕ, zero, suc, ◌+◌, ◌-◌, ◌/◌, min, true, List, map, length, get_or, take, drop, ℤ, pos, Ok, vec_items, sym, refl, ap, ◌∙◌, arith}
-use Rattle.std.specs.List.{range_with_len}
-use Rattle.std.proofs.lemmas.List.FromFn.{fill_by_all}
-use Rattle.std.proofs.lemmas.List.{length-append}
+use Rattle.std.proofs.Common.{◌≡◌, ℕ, zero, suc, ◌+◌, ◌-◌, ◌/◌, ◌<◌, min, List, [], ◌∷◌, ◌++◌, length, get_or, take, drop, ℤ, pos, IsSome, Some, Ok, Option, sym, refl, ap, ◌∙◌, subst, arith, w32, w64, SFits, to_z, of_z}
+use Rattle.std.proofs.lemmas.Int.{ints, to_z-of_z}
+use Rattle.std.proofs.lemmas.List.{length-append, take_more}
 use Rattle.block.specs.Blocks.{block_at, numbers_of}
 use Rattle.block.specs.Checks.{Verdict}
 use Rattle.block.proofs.RoundTrip.{length_numbers}
@@ -20,6 +19,27 @@ use Rattle.sheet.specs.declared.card_job.CardLists.{CardLists}
 pub same_lists_of : (x y : Numbers) → x.c ≡ y.c → x.l ≡ y.l → x.u ≡ y.u → x.lo ≡ y.lo → x.hi ≡ y.hi → x.slip ≡ y.slip → x ≡ y
 same_lists_of x y c l u lo hi slip = λ i. record { c = c i; l = l i; u = u i; lo = lo i; hi = hi i; slip = slip i }
 
+-- how many numbers a section has, by the sizes that a card is found to have
+pub counts : (kind : Kind) (n m ropes rows count : ℕ) → count ≡ count_of kind ropes rows → ropes ≡ n → rows ≡ m → count ≡ count_of kind n m
+counts kind n m ropes rows count e en em = e ∙ (ap (λ (k : ℕ). count_of kind k rows) en ∙ ap (count_of kind n) em)
+
+-- a number that is there
+pub given_some : (o : Option ℤ) (z : ℤ) → o ≡ Some z → IsSome o
+given_some o z e = subst (λ (p : Option ℤ). IsSome p) (sym e) refl
+
+pub given_is : (o : Option ℤ) (y z : ℤ) → o ≡ Some y → o ≡ Some z → y ≡ z
+given_is o y z p q = let e : Some y ≡ Some z = sym p ∙ q in cc
+
+-- one number more of a list, in eight bytes
+pub widened_more : (nums xs new : List ℤ) (q : ℕ) (z : ℤ) → SFits w32 z → z ≡ get_or nums q (pos 0) → xs ≡ take q nums → q < length nums
+    → new ≡ xs ++ to_z w64 (of_z w64 (to_z w32 (of_z w32 z))) ∷ [] → new ≡ take (q + 1) nums
+widened_more nums xs new q z four at inv below e =
+    let eight : SFits w64 z = omega (arith, ints) in
+    let same : to_z w64 (of_z w64 (to_z w32 (of_z w32 z))) ≡ z = ap (λ (y : ℤ). to_z w64 (of_z w64 y)) (to_z-of_z w32 z four) ∙ to_z-of_z w64 z eight in
+    e
+    ∙ (ap (λ (v : List ℤ). v ++ to_z w64 (of_z w64 (to_z w32 (of_z w32 z))) ∷ []) inv
+    ∙ (ap (λ (y : ℤ). take q nums ++ y ∷ []) (same ∙ at) ∙ sym (take_more nums q (pos 0) below)))
+
 module _ (card : List ℕ) where
   length_from : (k left b : ℕ) → b ≡ blocks_for left → length (numbers_from card k left b) ≡ left
   length_from k left zero e = omega arith
@@ -34,13 +54,9 @@ module _ (card : List ℕ) where
   unfolding numbers_in
   length_in n m kind = length_from (first_of kind n m) (count_of kind n m) (blocks_for (count_of kind n m)) refl
 
-  pub section_whole : (n m : ℕ) (kind : Kind) → map (λ q. get_or (numbers_in card n m kind) q (pos 0)) (range_with_len 0 (count_of kind n m)) ≡ numbers_in card n m kind
-  section_whole n m kind =
-      sym (fill_by_all (λ q. get_or (numbers_in card n m kind) q (pos 0)) (numbers_in card n m kind) (count_of kind n m) (pos 0) (length_in n m kind) (λ q h. refl))
-
   -- the lists of a card, from its sections
-  pub lists_read : (n m : ℕ) (x : CardLists) → vec_items x.costs ≡ numbers_in card n m Costs → vec_items x.bounds ≡ numbers_in card n m Bounds
-      → vec_items x.limits ≡ numbers_in card n m Limits → vec_items x.slip ≡ numbers_in card n m Slip → lists_of x ≡ lists_in card n m
+  pub lists_read : (n m : ℕ) (x : CardLists) → x.costs.items ≡ numbers_in card n m Costs → x.bounds.items ≡ numbers_in card n m Bounds
+      → x.limits.items ≡ numbers_in card n m Limits → x.slip.items ≡ numbers_in card n m Slip → lists_of x ≡ lists_in card n m
   lists_read n m x c b r s =
       let B : List ℤ = numbers_in card n m Bounds in
       let R : List ℤ = numbers_in card n m Limits in
@@ -53,9 +69,7 @@ module _ (card : List ℕ) where
       (ap lower r ∙ ap (λ (k : ℕ). take k R) half-r) (ap upper r ∙ ap (λ (k : ℕ). drop k R) half-r) s
 
   -- the job of a card, from its parts
-  pub job_read : (n m : ℕ) (g a : Grid) (x : Numbers) → Ok tt ≡ card_check card → n ≡ n_of card → m ≡ m_of card → g ≡ curvature_grid card → a ≡ rows_grid card → x ≡ lists_in card n m
-      → Ok (record { g = g; a = a; x = x }) ≡ read_answer true card
-  job_read n m g a x ok en em eg ea ex =
-      let lists : x ≡ lists_on card = ex ∙ ap (λ (k : ℕ). lists_in card k m) en ∙ ap (lists_in card (n_of card)) em in
-      let job : ◌≡◌ {A = Job} (record { g = g; a = a; x = x }) (job_on card) = λ i. record { g = eg i; a = ea i; x = lists i } in
+  pub job_read : (g a : Grid) (x : Numbers) → Ok tt ≡ card_check card → g ≡ curvature_grid card → a ≡ rows_grid card → x ≡ lists_on card → Ok (record { g = g; a = a; x = x }) ≡ read_answer card
+  job_read g a x ok eg ea ex =
+      let job : ◌≡◌ {A = Job} (record { g = g; a = a; x = x }) (job_on card) = λ i. record { g = eg i; a = ea i; x = ex i } in
       ap Ok job ∙ ap (λ (v : Verdict). passed_or v (Ok (job_on card))) ok

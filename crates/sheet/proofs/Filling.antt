@@ -1,5 +1,5 @@
 -- The contents of a job's card, and what is written of them.
-use Rattle.std.proofs.Common.{◌≡◌, ℕ, ◌*◌, ◌≤◌, Bool, true, cond, leb, List, [], ◌++◌, length, drop, ℤ, IfOk, IsOk, IsSome, Some, None, Ok, Err, Option, Result, sym, refl, ap, ◌∙◌, subst, arith}
+use Rattle.std.proofs.Common.{◌≡◌, ℕ, ◌*◌, ◌≤◌, Bool, true, cond, leb, List, [], ◌∷◌, ◌++◌, length, drop, ℤ, pos, IfOk, IsOk, IsSome, Some, None, Ok, Err, Option, Result, sym, refl, ap, ◌∙◌, subst, arith}
 use Rattle.std.specs.Option.{option_or}
 use Rattle.std.proofs.lemmas.List.{append-nil, length-append}
 use Rattle.std.proofs.lemmas.Bool.{le-leb}
@@ -8,12 +8,13 @@ use Rattle.block.specs.declared.fault.Fault.TheVariants.{Short}
 use Rattle.block.specs.declared.kind.Kind.{Kind}
 use Rattle.block.specs.declared.kind.Kind.TheVariants.{Head, Curvature, Rows, Costs, Bounds, Limits, Slip}
 use Rattle.section.specs.declared.sizes.Sizes.{Sizes}
-use Rattle.section.specs.Layout.{blocks_in}
+use Rattle.section.specs.Layout.{blocks_in, numbers_for}
 use Rattle.table.specs.Grid.{Grid, height_of, matrix_of}
 use Rattle.card.specs.declared.contents.Contents.{Contents}
+use Rattle.card.specs.declared.contents.Numbers.{Numbers as Lent}
 use Rattle.card.specs.Cards.{card_of}
 use Rattle.card.specs.Contents as card
-use Rattle.card.specs.Contents.{Counted, sections, numbers, written, bytes_needed}
+use Rattle.card.specs.Contents.{Counted, numbers, written, bytes_needed}
 use Rattle.card.specs.Faults.{card_check}
 use Rattle.card.specs.Laws.{Reads}
 use Rattle.opening.specs.Fits.{Fits}
@@ -24,29 +25,42 @@ use Rattle.opening.proofs.Firsts.{or_both}
 use Rattle.opening.specs.Firsts.{unless}
 use Rattle.reading.specs.Plain.{listed}
 use Rattle.reading.proofs.Listed.{listed_long}
+use Rattle.sheet.specs.declared.job_numbers.JobNumbers.{JobNumbers}
+use Rattle.sheet.specs.Gathering.{Gathers, Lends}
 use Rattle.sheet.specs.Laws.{Carries}
 use Rattle.sheet.specs.Numbers.{job_numbers, card_for, bytes_for}
 use Rattle.sheet.specs.Writing.{write_answer, write_after}
 use Rattle.sheet.proofs.Carrying.{same_card, carries}
 
--- the sections of a job that fits have as many numbers as the sizes ask for
-pub counted : (s : Sizes) (n m : ℕ) (g a : Grid) (x : Numbers) (curvature rows costs bounds limits slip : List ℤ) → Fits g a x → s.ropes ≡ height_of g → s.rows ≡ height_of a
-    → n ≡ s.ropes → m ≡ s.rows
-    → curvature ≡ listed n n (matrix_of g) → rows ≡ listed m n (matrix_of a) → costs ≡ x.c ++ [] → bounds ≡ x.l ++ x.u → limits ≡ x.lo ++ x.hi → slip ≡ x.slip ++ []
-    → Counted s (sections s curvature rows costs bounds limits slip)
-counted s n m g a x curvature rows costs bounds limits slip f er em en ek eg ea ec eb ei el Head = refl
-counted s n m g a x curvature rows costs bounds limits slip f er em en ek eg ea ec eb ei el Curvature =
-    ap length eg ∙ listed_long n n (matrix_of g) ∙ ap (λ (k : ℕ). k * k) en
-counted s n m g a x curvature rows costs bounds limits slip f er em en ek eg ea ec eb ei el Rows =
-    ap length ea ∙ listed_long m n (matrix_of a) ∙ ap (λ (k : ℕ). k * n) ek ∙ ap (λ (k : ℕ). s.rows * k) en
-counted s n m g a x curvature rows costs bounds limits slip f er em en ek eg ea ec eb ei el Costs =
-    ap length (ec ∙ append-nil x.c) ∙ f.long.c ∙ sym er
-counted s n m g a x curvature rows costs bounds limits slip f er em en ek eg ea ec eb ei el Bounds =
-    let l = f.long.l in let u = f.long.u in ap length eb ∙ length-append x.l x.u ∙ omega arith
-counted s n m g a x curvature rows costs bounds limits slip f er em en ek eg ea ec eb ei el Limits =
-    let l = f.long.lo in let u = f.long.hi in ap length ei ∙ length-append x.lo x.hi ∙ omega arith
-counted s n m g a x curvature rows costs bounds limits slip f er em en ek eg ea ec eb ei el Slip =
-    ap length (el ∙ append-nil x.slip) ∙ f.long.slip ∙ ap (λ (k : ℕ). k * k) (sym er)
+-- the numbers of a job that fits are as many in each section as the sizes ask for
+module _ (s : Sizes) (g a : Grid) (x : Numbers) (f : Fits g a x) (er : s.ropes ≡ height_of g) (em : s.rows ≡ height_of a) where
+  count_job : (kind : Kind) → length (job_numbers g a x kind) ≡ numbers_for s kind
+  count_job Head = refl
+  count_job Curvature = listed_long (height_of g) (height_of g) (matrix_of g) ∙ ap (λ (k : ℕ). k * k) (sym er)
+  count_job Rows = listed_long (height_of a) (height_of g) (matrix_of a) ∙ ap (λ (k : ℕ). k * height_of g) (sym em) ∙ ap (λ (k : ℕ). s.rows * k) (sym er)
+  count_job Costs = f.long.c ∙ sym er
+  count_job Bounds = let l = f.long.l in let u = f.long.u in length-append x.l x.u ∙ omega arith
+  count_job Limits = let l = f.long.lo in let u = f.long.hi in length-append x.lo x.hi ∙ omega arith
+  count_job Slip = f.long.slip ∙ ap (λ (k : ℕ). k * k) (sym er)
+
+  -- what is lent of gathered numbers are the job's
+  pub lent_job : (y : JobNumbers) (lent : Lent) → Gathers y g a x → Lends lent y → (kind : Kind) → card.sections_of s lent kind ≡ job_numbers g a x kind
+  lent_job y lent h l Head = ap (λ (k : ℕ). pos k ∷ pos s.rows ∷ []) er ∙ ap (λ (k : ℕ). pos (height_of g) ∷ pos k ∷ []) em
+  lent_job y lent h l Curvature = l.curvature ∙ h.curvature
+  lent_job y lent h l Rows = l.rows ∙ h.rows
+  lent_job y lent h l Costs = l.costs ∙ h.costs
+  lent_job y lent h l Bounds = l.bounds ∙ h.bounds
+  lent_job y lent h l Limits = l.limits ∙ h.limits
+  lent_job y lent h l Slip = l.slip ∙ h.slip
+
+  pub counted : (y : JobNumbers) (lent : Lent) → Gathers y g a x → Lends lent y → Counted s (card.sections_of s lent)
+  counted y lent h l kind = ap length (lent_job y lent h l kind) ∙ count_job kind
+
+  -- the contents that are made of them have the job's numbers
+  pub contents_are : (y : JobNumbers) (lent : Lent) → Gathers y g a x → Lends lent y → (o : Option Contents) (made : Contents) → card.Built o s (card.sections_of s lent) → o ≡ Some made
+      → (kind : Kind) → numbers made kind ≡ job_numbers g a x kind
+  contents_are y lent h l None made b e = let z : ◌≡◌ {A = ℕ} 0 1 = cc in absurd (omega arith)
+  contents_are y lent h l (Some v) made b e = λ kind. let same : v ≡ made = cc in ap (λ (w : Contents). numbers w kind) (sym same) ∙ (b.1 kind ∙ lent_job y lent h l kind)
 
 -- what is told where opening refuses, whatever else would
 pub opening_refused : {X : Type 0} (u : X) (o rest : Option Refusal) (v : ℕ) (r : Result ℕ Refusal) (e : Refusal) → r ≡ Err e → Err e ≡ unless o u → r ≡ unless (option_or o rest) v
@@ -94,11 +108,11 @@ module _ (y : Contents) (g a : Grid) (x : Numbers) (e : (kind : Kind) → number
     used_is used e = let h = is_written in let same : used ≡ bytes_needed y = cc in ap Ok (same ∙ needed_is)
 
     module _ (r : Result ℕ Refusal) (used : r ≡ Ok (bytes_for g a)) where
-      pub answered : open_fault g a x ≡ None → r ≡ write_answer true g a x (length out)
+      pub answered : open_fault g a x ≡ None → r ≡ write_answer g a x (length out)
       answered none =
           let fits : cond (leb (bytes_for g a) (length out)) None (Some (Card (Short (bytes_for g a)))) ≡ None
           = ap (λ (b : Bool). cond b None (Some (Card (Short (bytes_for g a))))) (le-leb (bytes_for g a) (length out) room) in
-          used ∙ sym (ap (λ (o : Option Refusal). unless o (bytes_for g a)) (or_both _ _ none (or_both _ _ fits refl)))
+          used ∙ sym (ap (λ (o : Option Refusal). unless o (bytes_for g a)) (or_both _ _ none fits))
 
       pub left : (after : List ℕ) → after ≡ card.write_after y out → after ≡ write_after g a x out r
       left after e =

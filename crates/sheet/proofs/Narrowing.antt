@@ -1,7 +1,13 @@
 -- Numbers of eight bytes that four bytes hold.
-use Rattle.std.proofs.Common.{◌≡◌, ℕ, ◌-◌, ◌<◌, ◌≤◌, List, ◌++◌, map, length, get_or, ℤ, pos, nat_abs, sym, refl, subst, ap, ⊎_elim, ◌∙◌, arith, w32, w64, SFits, to_z, of_z}
+use Rattle.std.proofs.Common.{◌≡◌, ℕ, ◌+◌, ◌-◌, ◌*◌, ◌/◌, ◌%◌, ◌<◌, ◌≤◌, List, [], ◌∷◌, ◌++◌, map, length, get_or, take, ℤ, pos, nat_abs, sym, refl, subst, ap, ⊎_elim, ◌∙◌, arith, w32, w64, SFits, to_z, of_z}
+use Rattle.duality.specs.Sums.{Matrix}
+use Rattle.table.specs.Grid.{Grid, matrix_of}
+use Rattle.table.proofs.Bounds.{matrix_near}
 use Rattle.opening.specs.Fits.{Near}
-use Rattle.std.proofs.lemmas.List.{length-append, get_or_append_left, get_or-append_right, get_or_default, get_or-map, length-map, ext_get_or}
+use Rattle.reading.specs.Plain.{listed}
+use Rattle.reading.proofs.Listed.{listed_at, listed_long}
+use Rattle.std.proofs.lemmas.Nat.{div-add-mod', div_below, mod_below}
+use Rattle.std.proofs.lemmas.List.{length-append, get_or_append_left, get_or-append_right, get_or_default, append_assoc, take_more}
 use Rattle.std.proofs.lemmas.Bool.{cases_lt}
 use Rattle.std.proofs.lemmas.Int.{ints, to_z-of_z}
 
@@ -21,20 +27,28 @@ narrow_fits z h =
     let g : SFits w32 z = omega (arith, ints) in
     simp to_z-of_z g
 
-pub narrow_near : (xs : List ℤ) → Near 536870912 xs → (k : ℕ) (z : ℤ) → k < length xs → z ≡ get_or xs k z → SFits w32 (to_z w64 (of_z w64 z))
-narrow_near xs near k z below e = narrow_fits z (subst (λ y. nat_abs y ≤ 536870912) (get_or_default xs k (pos 0) z below ∙ sym e) (near k below))
+pub narrow_fit : (xs : List ℤ) → Near 536870912 xs → (k : ℕ) (z : ℤ) → k < length xs → z ≡ get_or xs k (pos 0) → SFits w32 (to_z w64 (of_z w64 z))
+narrow_fit xs near k z below e = narrow_fits z (subst (λ y. nat_abs y ≤ 536870912) (sym e) (near k below))
 
-pub narrow_all : (xs : List ℤ) → Near 536870912 xs → map narrow xs ≡ xs
-narrow_all xs near = ext_get_or (pos 0) (map narrow xs) xs (length-map xs narrow) (λ i h.
-    let below : i < length xs = omega (arith, h, length-map xs narrow) in
-    get_or-map narrow xs i (pos 0) (pos 0) below ∙ narrow_back (get_or xs i (pos 0)) (near i below))
+-- one number more of a list
+pub narrow_more : (xs ys all new : List ℤ) (i : ℕ) (z : ℤ) → Near 536870912 all → ys ≡ xs ++ take i all → i < length all → new ≡ ys ++ narrow z ∷ [] → z ≡ get_or all i (pos 0)
+    → new ≡ xs ++ take (i + 1) all
+narrow_more xs ys all new i z near inv below e at =
+    e
+    ∙ (ap (λ (v : List ℤ). v ++ narrow z ∷ []) inv
+    ∙ (append_assoc xs (take i all) (narrow z ∷ [])
+    ∙ ap (λ (v : List ℤ). xs ++ v)
+    (ap (λ (y : ℤ). take i all ++ y ∷ []) (narrow_back z (subst (λ (y : ℤ). nat_abs y ≤ 536870912) (sym at) (near i below)) ∙ at) ∙ sym (take_more all i (pos 0) below))))
 
--- numbers near enough in two lists are so in both together
-pub near_both : (xs ys : List ℤ) → Near 536870912 xs → Near 536870912 ys → Near 536870912 (xs ++ ys)
-near_both xs ys a b k h =
-    ⊎_elim
-    (λ (less : k < length xs). subst (λ (z : ℤ). nat_abs z ≤ 536870912) (sym (get_or_append_left xs ys (pos 0) k less)) (a k less))
-    (λ (more : length xs ≤ k).
-    let below : k - length xs < length ys = omega (arith, h, length-append xs ys) in
-    subst (λ (z : ℤ). nat_abs z ≤ 536870912) (sym (get_or-append_right xs ys (length xs) k (pos 0) refl more)) (b (k - length xs) below))
-    (cases_lt k (length xs))
+-- the numbers of a table are near enough
+pub near_listed : (n k : ℕ) (g : Grid) → Near 536870912 (listed n k (matrix_of g))
+near_listed n k g q h =
+    let M : Matrix = matrix_of g in
+    let less : q < n * k = omega (arith, h, listed_long n k (matrix_of g)) in
+    let some : 0 < k = ⊎_elim (λ (p : 0 < k). p) (λ (z : k ≤ 0). let none : k ≡ 0 = omega arith in let zero : n * k ≡ 0 = ap (λ (i : ℕ). n * i) none ∙ omega arith in absurd (omega arith)) (cases_lt 0 k) in
+    let i : q / k < n = div_below q k n some less in
+    let j : q % k < k = mod_below q k some in
+    let near = matrix_near g (q / k) (q % k) in
+    subst (λ (z : ℤ). nat_abs z ≤ 536870912)
+    (sym (listed_at n k (matrix_of g) (q / k) (q % k) i j) ∙ ap (λ (p : ℕ). get_or (listed n k (matrix_of g)) p (pos 0)) (div-add-mod' q k))
+    (omega (arith, near))

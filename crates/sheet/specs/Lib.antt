@@ -1,4 +1,5 @@
 pub mod Numbers
+pub mod Gathering
 pub mod Writing
 pub mod Reading
 pub mod Loading

@@ -1,5 +1,5 @@
 -- The job that a card holds.
-use Rattle.std.specs.Prelude.{ℕ, ◌/◌, Bool, cond, List, length, take, drop, ℤ, Ok, Err, vec_items, Result}
+use Rattle.std.specs.Prelude.{ℕ, ◌/◌, List, length, take, drop, ℤ, Ok, Err, Result}
 use Rattle.block.specs.Checks.{Verdict}
 use Rattle.block.specs.declared.kind.Kind.TheVariants.{Costs, Bounds, Limits, Slip}
 use Rattle.section.specs.Numbers.{numbers_in}
@@ -8,7 +8,7 @@ use Rattle.card.specs.Faults.{n_of, m_of, card_check}
 use Rattle.card.specs.Grids.{curvature_grid, rows_grid, grid_of}
 use Rattle.opening.specs.Opening.{Numbers}
 use Rattle.opening.specs.declared.refusal.Refusal.{Refusal}
-use Rattle.opening.specs.declared.refusal.Refusal.TheVariants.{Memory, Card}
+use Rattle.opening.specs.declared.refusal.Refusal.TheVariants.{Card}
 use Rattle.sheet.specs.declared.card_job.CardJob.{CardJob}
 use Rattle.sheet.specs.declared.card_job.CardLists.{CardLists}
 
@@ -47,12 +47,12 @@ upper xs = drop (length xs / 2) xs
 abbrev pub lists_of : CardLists → Numbers
 lists_of x =
     record {
-      c = vec_items x.costs;
-      l = lower (vec_items x.bounds);
-      u = upper (vec_items x.bounds);
-      lo = lower (vec_items x.limits);
-      hi = upper (vec_items x.limits);
-      slip = vec_items x.slip;
+      c = x.costs.items;
+      l = lower x.bounds.items;
+      u = upper x.bounds.items;
+      lo = lower x.limits.items;
+      hi = upper x.limits.items;
+      slip = x.slip.items;
     }
 
 abbrev pub seen : Result CardJob Refusal → Result Job Refusal
@@ -63,6 +63,6 @@ abbrev pub passed_or : {X : Type 0} → Verdict → Result X Refusal → Result 
 passed_or (Ok u) r = r
 passed_or (Err fault) r = Err (Card fault)
 
--- the card's first fault, then want of memory; or else its job
-abbrev pub read_answer : Bool → List ℕ → Result Job Refusal
-read_answer memory card = passed_or (card_check card) (cond memory (Ok (job_on card)) (Err Memory))
+-- the card's first fault, or else its job
+abbrev pub read_answer : List ℕ → Result Job Refusal
+read_answer card = passed_or (card_check card) (Ok (job_on card))

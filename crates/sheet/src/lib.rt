@@ -2,10 +2,10 @@
 #![tactic(auto)]
 
 mod card_job;
+mod job_numbers;
 mod loads;
 mod numbers;
 mod reads;
-mod sound_card;
 mod writes;
 
 pub use loads::load;

@@ -1,49 +1,29 @@
 //! The numbers of tables and lists as a card holds them, in four bytes each.
-ghost use Rattle.std.specs.Prelude.{◌≡◌, ◌≤◌, ◌++◌, map, IfOk, OnOk};
-ghost use Rattle.std.specs.List.{range_with_len};
-ghost use Rattle.table.specs.Grid.{matrix_of};
+ghost use Rattle.std.specs.Prelude.{◌≡◌, ◌+◌, ◌≤◌, ◌++◌, length};
 ghost use Rattle.opening.specs.Fits.{Near};
-ghost use Rattle.reading.specs.Plain.{listed};
 
-use std::alloc::{AllocError, Global};
-use table::Table;
+use arrayvec::ArrayVec;
 
-/// Adds the first numbers of row i. Four bytes hold each, since a place has a limit.
-fn push_row<T: Table>(
-    numbers: &mut Vec<i32>,
-    t: &T,
-    i: usize,
-    columns: usize,
-) -> Result<(), AllocError>
-    ensures { OnOk result (numbers.new.items ≡ numbers.old.items ++ map (matrix_of (T.Table.meant t.now) i) (range_with_len 0 columns)) }
+/// Puts the numbers at the end of a list that has room for them. Four bytes hold each.
+fn push_all<const N: usize>(numbers: &mut ArrayVec<i32, N>, xs: &[i64])
+    requires near { Near 536870912 xs.now }
+    requires room { length numbers.old.items + length xs.now ≤ N }
+    ensures { numbers.new.items ≡ numbers.old.items ++ xs.now }
 {
-    numbers.extend((0..columns).map(|j| t.place(i, j).unwrap_or(0) as i32))
-}
-
-/// The numbers of a table of these sizes, row by row.
-pub(crate) fn table_numbers<T: Table>(
-    heap: Global,
-    t: &T,
-    rows: usize,
-    columns: usize,
-) -> Result<Vec<i32>, AllocError>
-    requires rows { rows ≤ 64 }
-    requires columns { columns ≤ 64 }
-    ensures { IfOk result (λ v. v.items ≡ listed rows columns (matrix_of (T.Table.meant t.now))) }
-{
-    let count = rows * columns;
-    let mut numbers = Vec::with_capacity(heap, count)?;
-    for i in 0..rows {
-        push_row(&mut numbers, t, i, columns)?;
+    for x in xs {
+        numbers.push(*x as i32);
     }
-    Ok(numbers)
 }
 
 /// The numbers of two lists, one after the other.
-pub(crate) fn list_numbers(heap: Global, xs: &[i64], ys: &[i64]) -> Result<Vec<i32>, AllocError>
+pub(crate) fn list_numbers<const N: usize>(xs: &[i64], ys: &[i64]) -> ArrayVec<i32, N>
     requires first { Near 536870912 xs.now }
     requires second { Near 536870912 ys.now }
-    ensures { IfOk result (λ v. v.items ≡ xs.now ++ ys.now) }
+    requires room { length xs.now + length ys.now ≤ N }
+    ensures { result.items ≡ xs.now ++ ys.now }
 {
-    xs.iter().chain(ys).map(|x| *x as i32).collect(heap)
+    let mut numbers = ArrayVec::new();
+    push_all(&mut numbers, xs);
+    push_all(&mut numbers, ys);
+    numbers
 }

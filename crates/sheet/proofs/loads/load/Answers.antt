@@ -1,10 +1,13 @@
+use Rattle.std.proofs.Common.{IfOk, subst}
 use Rattle.std.proofs.lemmas.Result.{err_from_is_err_and}
+use Rattle.calls.specs.Opened.{Sound, viewed}
 use Rattle.card.specs.Grids.{grid_of}
 use Rattle.card.proofs.Whole.{card_back}
-use Rattle.opening.specs.Opening.{numbers_of}
+use Rattle.opening.specs.Opening.{Numbers, numbers_of}
+use Rattle.plan.specs.View.{view}
 use Rattle.sheet.specs.Reading.{Job, lists_of}
 use Rattle.sheet.proofs.Carrying.{same_again}
-use Rattle.sheet.proofs.Opening.{loaded, loaded_sound, not_read}
+use Rattle.sheet.proofs.Opening.{loaded, not_read, read_is}
 use Rattle.sheet.proofs.loads.load.Goals as goal
 
 pub returns : goal.returns
@@ -12,9 +15,12 @@ returns c =
     let card = c.args.card.now in
     let job = c.in_ok-job.job in
     let j : Job = record { g = grid_of job.g; a = grid_of job.a; x = lists_of job.lists } in
+    let x : Numbers = numbers_of c.lists.result in
     record {
-      answer = loaded card j c.in_ok-job.ensures (numbers_of c.lists.result) c.lists.ensures c.open.result c.open.ensures;
-      sound = loaded_sound card j c.in_ok-job.ensures (numbers_of c.lists.result) c.lists.ensures c.open.result c.open.ensures;
+      answer = loaded card j c.in_ok-job.ensures x c.lists.ensures (viewed (view grid_of grid_of) c.open.result) c.open.ensures.answer;
+      sound =
+          subst (λ (k : Job). IfOk c.open.result (λ p. Sound k.g k.a k.x (view grid_of grid_of p))) (read_is card j c.in_ok-job.ensures x c.lists.ensures)
+          (subst (λ (y : Numbers). IfOk c.open.result (λ p. Sound j.g j.a y (view grid_of grid_of p))) c.lists.ensures c.open.ensures.sound);
       again = same_again card (card_back card (λ k. (c.type_inv.card k).fits));
     }
 
