@@ -3,7 +3,7 @@
 
 use calls::{Amendment, Dropped, Found, Report, Shown};
 use opening::Refusal;
-use session::{Answer, Call, Pair, session};
+use session::{Answer, Asked, Call, Pair, session};
 use small_job::{CURVATURE, LISTS, ROW};
 use std::io;
 use table::Triplets;
@@ -45,32 +45,43 @@ fn print_shown(rt: &HostRuntime, shown: &Shown, list: &[i64]) -> io::Result<()> 
     println!(rt; "")
 }
 
-fn print_answer(rt: &HostRuntime, answer: &Answer) -> io::Result<()> {
-    match answer {
-        Answer::Judged(Ok(verdict)) => println!(rt; "{verdict}"),
-        Answer::Amended(Ok(dropped)) => print_dropped(rt, dropped),
-        Answer::Solved(Ok(report)) => print_report(rt, report),
-        Answer::Shown(Ok(shown), list) => print_shown(rt, shown, list.as_slice()),
-        Answer::Judged(Err(refusal))
-        | Answer::Amended(Err(refusal))
-        | Answer::Solved(Err(refusal))
-        | Answer::Shown(Err(refusal), _) => print_refusal(rt, refusal),
+fn print_answer(rt: &HostRuntime, answer: &Answer, call: &Call) -> io::Result<()> {
+    match (answer, call) {
+        (Answer::Judged(Ok(verdict)), _) => println!(rt; "{verdict}"),
+        (Answer::Amended(Ok(dropped)), _) => print_dropped(rt, dropped),
+        (Answer::Solved(Ok(report)), _) => print_report(rt, report),
+        (Answer::Shown(Ok(shown)), Call::Show(list)) => print_shown(rt, shown, list),
+        (Answer::Shown(Ok(shown)), _) => print_shown(rt, shown, &[]),
+        (
+            Answer::Judged(Err(refusal))
+            | Answer::Amended(Err(refusal))
+            | Answer::Solved(Err(refusal))
+            | Answer::Shown(Err(refusal)),
+            _,
+        ) => print_refusal(rt, refusal),
+    }
+}
+
+fn print_slot(rt: &HostRuntime, slot: &Asked) -> io::Result<()> {
+    match &slot.answer {
+        Some(answer) => print_answer(rt, answer, &slot.call),
+        None => println!(rt; "no answer"),
     }
 }
 
 /// New limits for the one row of the job.
-fn limits(lo: i64, hi: i64) -> Call<'static> {
+fn limits<'a>(lo: i64, hi: i64) -> Call<'a> {
     Call::Amend(Amendment::Row { index: 0, lo, hi })
 }
 
 /// Makes the calls on a plan of J.
-fn run_calls(rt: &HostRuntime, calls: &[Call]) -> io::Result<()> {
+fn run_calls(rt: &HostRuntime, asked: &mut [Asked]) -> io::Result<()> {
     let g = Triplets::new(2, 2, &CURVATURE);
     let a = Triplets::new(1, 2, &ROW);
-    match session(rt.alloc(), g, a, &LISTS, calls) {
-        Ok(answers) => {
-            for answer in answers.as_slice() {
-                print_answer(rt, answer)?;
+    match session(g, a, &LISTS, asked) {
+        Ok(()) => {
+            for slot in asked.iter() {
+                print_slot(rt, slot)?;
             }
             Ok(())
         }
@@ -79,25 +90,28 @@ fn run_calls(rt: &HostRuntime, calls: &[Call]) -> io::Result<()> {
 }
 
 fn run(rt: &HostRuntime) -> anyhow::Result<()> {
-    let calls = [
-        Call::Show(&[0, 0]),
+    let mut lists = [[0i64; 2]; 6];
+    let mut long = [0i64; 3];
+    let [opened, offered, closed, amended, refuted, solved] = &mut lists;
+    let mut asked = [
+        Call::Show(opened),
         Call::Point(&[1, 2]),
-        Call::Show(&[0, 0]),
+        Call::Show(offered),
         Call::Point(&[2, 2]),
         Call::Floor(Pair {
             point: &[1, 2],
             multipliers: &[-512],
         }),
-        Call::Show(&[0, 0]),
+        Call::Show(closed),
         limits(0, 2),
-        Call::Show(&[0, 0]),
+        Call::Show(amended),
         limits(20, 30),
         Call::Proof(&[1]),
         limits(21, 30),
         Call::Proof(&[1]),
-        Call::Show(&[0, 0]),
+        Call::Show(refuted),
         Call::Point(&[1, 2, 3]),
-        Call::Show(&[0, 0, 0]),
+        Call::Show(&mut long),
         Call::Solve {
             steps: 1001,
             moves: 0,
@@ -111,9 +125,10 @@ fn run(rt: &HostRuntime) -> anyhow::Result<()> {
             steps: 1000,
             moves: 100000,
         },
-        Call::Show(&[0, 0]),
-    ];
-    run_calls(rt, &calls)?;
+        Call::Show(solved),
+    ]
+    .map(Asked::new);
+    run_calls(rt, &mut asked)?;
     Ok(())
 }
 
