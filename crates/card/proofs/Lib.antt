@@ -9,3 +9,4 @@ pub mod Owners
 pub mod Spans
 pub mod Saying
 pub mod Finding
+pub mod RowRuns

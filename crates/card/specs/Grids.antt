@@ -32,6 +32,10 @@ rows_grid card = section_grid card (first_of Rows (cut (size_at card 4)) (cut (s
 abbrev pub grid_of : CardTable → Grid
 grid_of t = section_grid t.bytes.now t.first t.rows t.columns
 
+-- numbers one behind the other from byte `at` on, as one row
+abbrev pub run_grid : List ℕ → ℕ → ℕ → Grid
+run_grid bytes at count = record { rows = pos 1; columns = pos count; cell = λ i j. number_at bytes (at + j * 4) }
+
 -- a grid has the numbers of a section of n columns, those beyond the limit of a place as blanks
 pub record Holds (card : List ℕ) (kind : Kind) (rows : ℕ) (g : Grid) : Type 0 where
   pub high : height_of g ≡ rows

@@ -5,6 +5,7 @@ mod card_table;
 mod checks;
 mod contents;
 mod full;
+mod run;
 mod sections;
 mod sound_card;
 mod tables;
