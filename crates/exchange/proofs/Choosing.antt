@@ -1,5 +1,5 @@
 -- The definitions of breaches and choices, case by case.
-use Rattle.std.proofs.Common.{◌≡◌, ℕ, ◌+◌, ◌<◌, ◌≤◌, true, false, ltb, List, ◌∷◌, length, drop, ℤ, pos, sym, ap, ◌∙◌, le-ltb, lt-ltb}
+use Rattle.std.proofs.Common.{◌≡◌, ℕ, ◌+◌, ◌<◌, ◌≤◌, Bool, true, false, cond, ltb, List, ◌∷◌, length, drop, ℤ, pos, sym, ap, ◌∙◌, le-ltb, lt-ltb, refl}
 use lib.Signed.{lt_z}
 use Rattle.duality.specs.Lists.{places}
 use Rattle.duality.specs.Problem.{Problem}
@@ -30,9 +30,13 @@ module _ (P : Problem) (ms : List Member) (z : List ℤ) (b : Breach) (v : Limit
   unfolding worse
   worse_taken o h e t = let t' : lt_z b.ticks (breach P z v).ticks ≡ true = ap (λ y. lt_z b.ticks y.ticks) (sym e) ∙ t in rw (h, t') e
 
-  pub worse_left : (o : Breach) → holds ms v ≡ false → o ≡ breach P z v → lt_z b.ticks o.ticks ≡ false → b ≡ worse P ms z b v
+  pub worse_left : (o : Breach) → o ≡ breach P z v → lt_z b.ticks o.ticks ≡ false → b ≡ worse P ms z b v
   unfolding worse
-  worse_left o h e t = let t' : lt_z b.ticks (breach P z v).ticks ≡ false = ap (λ y. lt_z b.ticks y.ticks) (sym e) ∙ t in rw (h, t')
+  worse_left o e t = let t' : lt_z b.ticks (breach P z v).ticks ≡ false = ap (λ y. lt_z b.ticks y.ticks) (sym e) ∙ t in rw t' (sym (either (holds ms v)))
+    where
+      either : (h : Bool) → cond h b b ≡ b
+      either true = refl
+      either false = refl
 
 pub wrong_here : (ms us vs : List Member) (ys ws zs : List ℤ) (m : Member) (y : ℤ) (k : ℕ) → us ≡ drop k ms → us ≡ m ∷ vs → ws ≡ drop k ys → ws ≡ y ∷ zs →
     wrongness m.side y ≡ wrongness (member_at ms k).side (places ys k)

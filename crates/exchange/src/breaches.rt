@@ -61,11 +61,9 @@ impl Rounded<'_> {
         requires { Of (problem_of self.now.set.job.now).ropes (problem_of self.now.set.job.now).rows limit }
         ensures { result ≡ worse_of (problem_of self.now.set.job.now) self.now.set.members.now self.now.pulls.now best limit }
     {
-        if self.set.holds(limit) {
-            return best;
-        }
         let other = self.breach(limit);
-        if other.ticks > best.ticks {
+        // Few limits are worse than the worst so far, so that the members are seldom asked.
+        if other.ticks > best.ticks && !self.set.holds(limit) {
             other
         } else {
             best
