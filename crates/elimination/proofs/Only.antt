@@ -1,11 +1,12 @@
 -- A system has one elimination: its lines are left one way, and have one answer.
 use Rattle.std.proofs.Common.{◌≡◌, ◌≢◌, ℕ, suc, ◌+◌, ◌<◌, ◌≤◌, ◌⊎◌, inl, inr, true, false, List, [], ◌∷◌, length, Some, None, Option, sym, refl, ap, ◌∙◌, subst, ⊎_elim, arith}
 use lib.Ieee.{Float, nan, lt}
+use Rattle.std.specs.Float.{◌<ᶠ◌}
 use Rattle.std.proofs.lemmas.Float.{le_of_lt, le_of_not-lt, le_right}
 use Rattle.std.proofs.lemmas.Bool.{cases_lt}
 use Rattle.std.proofs.lemmas.List.{ext_get_or}
 use Rattle.elimination.specs.Lines.{smallest, inside, unknown_of}
-use Rattle.elimination.specs.Runs.{line_at, size_at, HasPivot, Takable, Takes, HasNone, ClearedBy, Clears, Lead, Unknowns, Outside, Ends, Elimination}
+use Rattle.elimination.specs.Runs.{line_at, size_at, HasPivot, Takable, Takes, HasNone, ClearedBy, Clears, Lead, sizes, Least, Unknowns, Outside, Ends, Elimination}
 use Rattle.elimination.specs.declared.pivots.Pivot.{Pivot}
 use Rattle.elimination.proofs.Search.{no_more}
 
@@ -148,5 +149,13 @@ one_solution ls ms ns ps qs us vs f a g b =
     let Q : ℕ → Type 0 = λ c. Ends n c ms vs in
     (sym r.0, one_end n (length ps) ms vs us (subst Q (ap length (sym r.1)) (subst P (sym r.0) b)) a, sym r.1)
 
-pub one_elimination : (s t u : Float) (ls ms ns : List (List Float)) (us vs : Option (List Float)) → Elimination s ls ms t us → Elimination s ls ns u vs → (ns ≡ ms) × (vs ≡ us)
-one_elimination s t u ls ms ns us vs f g = let r = one_solution ls ms ns f.pivots g.pivots us vs f.columns f.end g.columns g.end in (r.0, r.1)
+least_one : (xs : List Float) (t u : Float) → Least xs t → Least xs u → ¬ (u <ᶠ t)
+least_one xs t u f g = let a = g.among in let P : Float → Type 0 = λ x. ¬ (x <ᶠ t) in subst P a.2 (f.least a.0 u a.1)
+
+pub one_elimination : (s t u : Float) (ls ms ns : List (List Float)) (us vs : Option (List Float)) → Elimination s ls ms t us → Elimination s ls ns u vs →
+    (ns ≡ ms) × (vs ≡ us) × (¬ (u <ᶠ t)) × (¬ (t <ᶠ u))
+one_elimination s t u ls ms ns us vs f g =
+    let r = one_solution ls ms ns f.pivots g.pivots us vs f.columns f.end g.columns g.end in
+    let P : List Pivot → Type 0 = λ ps. Least (s ∷ sizes ps) u in
+    let h = subst P r.2 g.size in
+    (r.0, r.1, least_one (s ∷ sizes f.pivots) t u f.size h, least_one (s ∷ sizes f.pivots) u t h f.size)

@@ -14,7 +14,7 @@ use crate::working::WorkingSet;
 use elimination::{LINE_PLACES, MOST_UNKNOWNS};
 use job::Job;
 
-/// By way of 32 bits, which a processor makes a float in one instruction.
+/// A number as a float, by way of 32 bits, of which a processor makes one in one instruction.
 fn float(x: i64) -> f64
     requires { unsigned_abs x ≤ 536870912 }
     ensures { result ≡ of_int binary64 x }
@@ -22,6 +22,7 @@ fn float(x: i64) -> f64
     f64::from(x as i32)
 }
 
+/// A number turned round, as a float.
 fn minus(x: i64) -> f64
     requires { unsigned_abs x ≤ 536870912 }
     ensures { result ≡ of_int binary64 (neg_ℤ x) }
@@ -29,6 +30,7 @@ fn minus(x: i64) -> f64
     f64::from(-x as i32)
 }
 
+/// Writes a run of numbers as floats.
 fn write(line: &mut [f64], xs: &[i64])
     requires same { length line.old ≡ length xs.now }
     requires small { (k : ℕ) → k < length xs.now → unsigned_abs (places xs.now k) ≤ 536870912 }
@@ -115,6 +117,7 @@ impl WorkingSet<'_> {
         right[0] = minus(price(self.job, r));
     }
 
+    /// The weights of a limit, one for each rope.
     fn write_weights(&self, line: &mut [f64], limit: Limit)
         requires limit { Of (problem_of self.now.job.now).ropes (problem_of self.now.job.now).rows limit }
         requires all { length line.old ≡ (problem_of self.now.job.now).ropes }
