@@ -23,9 +23,9 @@ name_of Card = codes "card"
 name_of Table = codes "table"
 name_of Plan = codes "plan"
 
--- a notice is printed as its number and its places, both of them, 0 as any other
+-- a notice is printed as its number and its first place, 0 as any other
 abbrev pub notice_text : Notice → List ℕ
-notice_text n = codes "refused " ++ (decimal n.number ++ (codes " at " ++ (decimal n.first ++ (codes " " ++ decimal n.second))))
+notice_text n = codes "refused " ++ (decimal n.number ++ (codes " at " ++ decimal n.first))
 
 -- a fault is printed as its notice
 abbrev pub fault_text : Fault → List ℕ

@@ -78,18 +78,13 @@ impl fmt::Display for Layer {
     }
 }
 
-/// A notice as programs print it: its number and its places.
+/// A notice as programs print it: its number and its first place.
 impl fmt::Display for Notice {
     ghost output = { λ notice. Some (notice_text notice) };
 
     fn fmt<W: fmt::Write>(&self, f: &mut fmt::Formatter<W>) -> fmt::Result {
-        let Notice {
-            number,
-            first,
-            second,
-            ..
-        } = *self;
-        write!(f, "refused {number} at {first} {second}")
+        let Notice { number, first, .. } = *self;
+        write!(f, "refused {number} at {first}")
     }
 }
 

@@ -62,7 +62,8 @@ fn report(rt: &HostRuntime, card: &[u8]) -> io::Result<()> {
             let sizes = sound.sizes();
             println!(rt; "sound {} {}", sizes.ropes(), sizes.rows())
         }
-        Err(fault) => println!(rt; "{fault}"),
+        // The second place too, since an outside program tells both.
+        Err(fault) => println!(rt; "{fault} {}", fault.notice().second),
     }
 }
 

@@ -8,12 +8,12 @@ use card::CardTable;
 use opening::{Lists, Refusal};
 use plan::Plan;
 use print::{print_plan, print_refusal};
-use session::{Answer, Call, Pair, session};
+use session::{Answer, Asked, Call, Pair, session};
 use sheet::{load, write};
 use small_job::{CURVATURE, LISTS, ROW};
-use std::alloc::Global;
-use std::io;
+use std::alloc::{AllocError, Global};
 use std::io::Write;
+use std::{io, slice};
 use table::{Record, Table, Triplets};
 
 /// How many bytes the card of J has.
@@ -21,14 +21,14 @@ const BYTES: usize = 3584;
 
 fn refused(rt: &HostRuntime, name: &str, refusal: Refusal) -> io::Result<()> {
     let notice = refusal.notice();
-    println!(rt; "{name}: {notice} ({})", notice.layer)
+    println!(rt; "{name}: {notice} {} ({})", notice.second, notice.layer)
 }
 
 /// Writes the card of J into a list.
 fn write_into(rt: &HostRuntime, name: &str, out: &mut [u8]) -> io::Result<()> {
     let g = Triplets::new(2, 2, &CURVATURE);
     let a = Triplets::new(1, 2, &ROW);
-    match write(rt.alloc(), &g, &a, &LISTS, out) {
+    match write(&g, &a, &LISTS, out) {
         Ok(bytes) => println!(rt; "{name}: {bytes} bytes"),
         Err(refusal) => refused(rt, name, refusal),
     }
@@ -50,7 +50,7 @@ fn write_again(rt: &HostRuntime, card: &[u8]) -> io::Result<()> {
     let mut again = [0u8; BYTES];
     let g = CardTable::curvature(card);
     let a = CardTable::rows(card);
-    match write(rt.alloc(), &g, &a, &LISTS, &mut again) {
+    match write(&g, &a, &LISTS, &mut again) {
         Ok(bytes) => {
             let words = if &again[..] == card {
                 "the same"
@@ -76,7 +76,7 @@ fn load_with(
             *place = *byte;
         }
     }
-    match load(rt.alloc(), bytes.as_slice()) {
+    match load(bytes.as_slice()) {
         Ok(_) => println!(rt; "{name}: opens")?,
         Err(refusal) => refused(rt, name, refusal)?,
     }
@@ -133,7 +133,7 @@ fn open<G: Table + Drop, A: Table + Drop>(
     a: A,
     lists: &Lists,
 ) -> io::Result<()> {
-    match Plan::open(rt.alloc(), g, a, lists) {
+    match Plan::open(g, a, lists) {
         Ok(_) => println!(rt; "{name}: opens"),
         Err(refusal) => refused(rt, name, refusal),
     }
@@ -295,11 +295,11 @@ fn answered(rt: &HostRuntime, name: &str, answer: &Answer) -> io::Result<()> {
         Answer::Judged(Ok(verdict)) => println!(rt; "{name}: {verdict}"),
         Answer::Amended(Ok(_)) => println!(rt; "{name}: amended"),
         Answer::Solved(Ok(_)) => println!(rt; "{name}: solved"),
-        Answer::Shown(Ok(_), _) => println!(rt; "{name}: shown"),
+        Answer::Shown(Ok(_)) => println!(rt; "{name}: shown"),
         Answer::Judged(Err(refusal))
         | Answer::Amended(Err(refusal))
         | Answer::Solved(Err(refusal))
-        | Answer::Shown(Err(refusal), _) => refused(rt, name, *refusal),
+        | Answer::Shown(Err(refusal)) => refused(rt, name, *refusal),
     }
 }
 
@@ -319,13 +319,12 @@ fn ask(rt: &HostRuntime, name: &str, call: Call) -> io::Result<()> {
         hi: &[5, 2, 2],
         ..LISTS
     };
-    match session(rt.alloc(), g, a, &lists, &[call]) {
-        Ok(answers) => {
-            for answer in answers.as_slice() {
-                answered(rt, name, answer)?;
-            }
-            Ok(())
-        }
+    let mut slot = Asked::new(call);
+    match session(g, a, &lists, slice::from_mut(&mut slot)) {
+        Ok(()) => match &slot.answer {
+            Some(answer) => answered(rt, name, answer),
+            None => println!(rt; "{name}: no answer"),
+        },
         Err(refusal) => refused(rt, name, refusal),
     }
 }
@@ -367,7 +366,7 @@ fn proofs(rt: &HostRuntime) -> io::Result<()> {
     ask(rt, "2 multipliers, one beyond", Call::Proof(&[16777217, 0]))
 }
 
-fn solve(steps: u64, moves: u64) -> Call<'static> {
+fn solve<'a>(steps: u64, moves: u64) -> Call<'a> {
     Call::Solve { steps, moves }
 }
 
@@ -376,20 +375,20 @@ fn solves_and_shows(rt: &HostRuntime) -> io::Result<()> {
     ask(rt, "1000001 moves", solve(0, 1000001))?;
     ask(rt, "1001 steps and 1000001 moves", solve(1001, 1000001))?;
     ask(rt, "1000 steps and 1000000 moves", solve(1000, 1000000))?;
-    ask(rt, "show into 1 number", Call::Show(&[0]))?;
-    ask(rt, "show into 3 numbers", Call::Show(&[0, 0, 0]))?;
-    ask(rt, "show into 2 numbers", Call::Show(&[0, 0]))
+    ask(rt, "show into 1 number", Call::Show(&mut [0]))?;
+    ask(rt, "show into 3 numbers", Call::Show(&mut [0, 0, 0]))?;
+    ask(rt, "show into 2 numbers", Call::Show(&mut [0, 0]))
 }
 
-fn row(index: usize, lo: i64, hi: i64) -> Call<'static> {
+fn row<'a>(index: usize, lo: i64, hi: i64) -> Call<'a> {
     Call::Amend(Amendment::Row { index, lo, hi })
 }
 
-fn rope(index: usize, l: i64, u: i64) -> Call<'static> {
+fn rope<'a>(index: usize, l: i64, u: i64) -> Call<'a> {
     Call::Amend(Amendment::Rope { index, l, u })
 }
 
-fn linear_cost(index: usize, c: i64) -> Call<'static> {
+fn linear_cost<'a>(index: usize, c: i64) -> Call<'a> {
     Call::Amend(Amendment::Cost { index, c })
 }
 
@@ -407,22 +406,35 @@ fn amendments(rt: &HostRuntime) -> io::Result<()> {
     ask(rt, "rope 2 up to 32769", rope(2, 0, 32769))
 }
 
-/// A long run of calls: want of memory alone could end it early, and there is memory.
+/// A show into each list.
+fn shows<'a>(heap: Global, lists: &'a mut [[i64; 2]]) -> Result<Vec<Asked<'a>>, AllocError> {
+    let mut asked = Vec::with_capacity(heap, lists.len())?;
+    for list in lists {
+        asked.push(Asked::new(Call::Show(list)))?;
+    }
+    Ok(asked)
+}
+
+/// A long run of calls: each slot has its answer.
 fn many_shows(rt: &HostRuntime) -> anyhow::Result<()> {
     let g = Triplets::new(2, 2, &CURVATURE);
     let a = Triplets::new(1, 2, &ROW);
-    let calls = vec![in rt.alloc(); Call::Show(&[0, 0]); 1000]?;
-    match session(rt.alloc(), g, a, &LISTS, calls.as_slice()) {
-        Ok(answers) => println!(rt; "1000 shows: {} answers", answers.len())?,
+    let mut lists = [[0i64; 2]; 1000];
+    let mut asked = shows(rt.alloc(), &mut lists)?;
+    match session(g, a, &LISTS, asked.as_mut_slice()) {
+        Ok(()) => {
+            let answers = asked.iter().filter(|slot| slot.answer.is_some()).count();
+            println!(rt; "1000 shows: {answers} answers")?;
+        }
         Err(refusal) => refused(rt, "1000 shows", refusal)?,
     }
     Ok(())
 }
 
 /// The sheet of J after a solve without steps or moves, which offers the lower bounds.
-fn sheet_of(heap: Global, card: &[u8], text: &mut [u8]) -> Result<usize, Refusal> {
-    let mut plan = load(heap, card)?;
-    let report = plan.solve(heap, 0, 0)?;
+fn sheet_of(card: &[u8], text: &mut [u8]) -> Result<usize, Refusal> {
+    let mut plan = load(card)?;
+    let report = plan.solve(0, 0)?;
     print_plan(&plan, &report, text)
 }
 
@@ -444,7 +456,7 @@ fn printed(
 fn print_into(rt: &HostRuntime, card: &[u8], text: &mut [u8]) -> io::Result<()> {
     let len = text.len();
     println!(rt; "print into {len} bytes")?;
-    let answer = sheet_of(rt.alloc(), card, text);
+    let answer = sheet_of(card, text);
     printed(rt, "sheet", answer, text)?;
     let answer = print_refusal(&Refusal::Bound { rope: 1 }, text);
     printed(rt, "refusal", answer, text)

@@ -11,7 +11,6 @@ use Rattle.opening.specs.declared.refusal.List.TheVariants.{Costs, LowerBounds, 
 use Rattle.opening.specs.declared.refusal.List.TheVariants as name
 use Rattle.opening.specs.declared.refusal.Refusal.{Refusal}
 use Rattle.opening.specs.declared.refusal.Refusal.TheVariants.{
-  Memory,
   Card,
   Sizes,
   Place,
@@ -88,7 +87,6 @@ pub record Outweighed (n : ℕ) (R : Matrix) (i : ℕ) : Type 0 where
 
 -- what is named is at fault; the other refusals are none of opening's
 abbrev pub AtFault : Grid → Grid → Numbers → Refusal → Type 0
-AtFault g a x Memory = ⊥
 AtFault g a x (Card fault) = ⊥
 AtFault g a x (Sizes height width) = (HasSizes g height width ⊎ HasSizes a height width) × (Sized g a → ⊥)
 AtFault g a x (Place i j) = Unfilled 4096 g i j ⊎ Unfilled 1024 a i j

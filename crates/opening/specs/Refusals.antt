@@ -8,7 +8,6 @@ use Rattle.opening.specs.declared.refusal.List.{List}
 use Rattle.opening.specs.declared.refusal.List.TheVariants as list
 use Rattle.opening.specs.declared.refusal.Refusal.{Refusal}
 use Rattle.opening.specs.declared.refusal.Refusal.TheVariants.{
-  Memory,
   Card,
   Sizes,
   Place,
@@ -41,7 +40,6 @@ abbrev pub at_plan : ℕ → ℕ → ℕ → Notice
 at_plan number first second = record { number = number; layer = Plan; first = first; second = second }
 
 abbrev pub notice_of : Refusal → Notice
-notice_of Memory = at_plan 0 0 0
 notice_of (Card fault) = card.notice_of fault
 notice_of (Sizes height width) = at_table 10 height width
 notice_of (Place row column) = at_table 11 row column

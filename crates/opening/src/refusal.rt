@@ -1,10 +1,9 @@
 //! Everything that a plan can refuse.
 ghost use Rattle.std.specs.Prelude.{◌≡◌};
-ghost use Rattle.opening.specs.declared.refusal.Refusal.TheVariants.{Memory, Card};
+ghost use Rattle.opening.specs.declared.refusal.Refusal.TheVariants.{Card};
 ghost use Rattle.opening.specs.Refusals.{list_number, notice_of, ToldApart};
 
 use block::{Fault, Layer, Notice};
-use std::alloc::AllocError;
 
 /// The lists that a plan is opened from, beside its tables.
 #[derive(Clone, Copy, PartialEq, Eq, Debug)]
@@ -20,8 +19,6 @@ pub enum List {
 /// Why a plan refuses, and where.
 #[derive(Clone, Copy, PartialEq, Eq, Debug)]
 pub enum Refusal {
-    /// There is no memory; everything stands as before.
-    Memory,
     /// A card is at fault.
     Card { fault: Fault },
     /// A table has sizes that a plan cannot have, these.
@@ -86,7 +83,6 @@ impl Refusal {
         ensures apart { ToldApart self.now result }
     {
         match *self {
-            Refusal::Memory => told(0, Layer::Plan, 0, 0),
             Refusal::Card { fault } => fault.notice(),
             Refusal::Sizes { height, width } => told(10, Layer::Table, height, width),
             Refusal::Place { row, column } => told(11, Layer::Table, row, column),
@@ -102,14 +98,6 @@ impl Refusal {
             Refusal::NoSuch { index } => told(30, Layer::Plan, index, 0),
             Refusal::Amendment { index } => told(31, Layer::Plan, index, 0),
         }
-    }
-}
-
-impl From<AllocError> for Refusal {
-    ghost from_gives = { λ _ r. r ≡ Memory };
-
-    fn from(_e: AllocError) -> Self {
-        Self::Memory
     }
 }
 
