@@ -14,7 +14,7 @@ fn run(rt: &HostRuntime) -> anyhow::Result<()> {
     let mut card = Vec::new(rt.alloc());
     rt.stdin().take(MOST).read_to_end(&mut card)?;
     let mut text = [0u8; ROOM];
-    match solve_card(rt.alloc(), card.as_slice(), &mut text) {
+    match solve_card(card.as_slice(), &mut text) {
         Ok(solved) => {
             rt.stdout().write_all(&text[..solved.bytes])?;
             Ok(())

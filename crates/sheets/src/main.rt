@@ -22,7 +22,7 @@ fn card<'a>(input: &mut &'a [u8]) -> Option<&'a [u8]> {
 
 fn show_card(rt: &HostRuntime, card: &[u8]) -> anyhow::Result<()> {
     let mut text = [0u8; ROOM];
-    match solve_card(rt.alloc(), card, &mut text) {
+    match solve_card(card, &mut text) {
         Ok(solved) => {
             rt.stdout().write_all(&text[..solved.bytes])?;
             let pivot = bits(solved.smallest);

@@ -1,9 +1,9 @@
 -- What becomes of a card and of the list for its text.
-use Rattle.std.specs.Prelude.{◌≡◌, ℕ, ◌≤◌, ◌<◌, true, false, cond, ◌⊎◌, List, length, Float}
+use Rattle.std.specs.Prelude.{ℕ, true, false, cond, List, length, Float, Ok, Err, Result, nat_le}
 use Rattle.std.specs.Float.Ieee.{binary64, is_nan, to_bits}
 use Rattle.opening.specs.declared.refusal.Refusal.{Refusal}
 use Rattle.print.specs.Printing.{refused_text}
-use Rattle.solver.specs.Outcomes.{written, Printed, Unsolved}
+use Rattle.solver.specs.Outcomes.{written, solve_answer, solve_after}
 use Rattle.solver.specs.declared.solved.Solved.{Solved}
 use Rattle.solver_c.specs.declared.Answer.{Answer}
 
@@ -11,24 +11,21 @@ use Rattle.solver_c.specs.declared.Answer.{Answer}
 abbrev pub bits_of : Float → ℕ
 bits_of x = cond (is_nan x) 0 (to_bits binary64 x)
 
--- the card's job is solved, and its sheet stands in the list
-pub record Sheet (card out after : List ℕ) (a : Answer) : Type 0 where
-  pub solved : Solved
-  pub printed : Printed card out after solved
-  pub answer : a ≡ record { bytes = solved.bytes; pivot = bits_of solved.smallest; solved = true }
+-- a sheet, or a refusal's text
 
--- the card is refused, and the refusal stands in the list
-pub record Refused (card out after : List ℕ) (a : Answer) : Type 0 where
-  pub refusal : Refusal
-  pub why : Unsolved card refusal
-  pub list : after ≡ written (refused_text refusal) out
-  pub answer : a ≡ record { bytes = length (refused_text refusal); pivot = 0; solved = false }
+abbrev pub told : Result Solved Refusal → Answer
+told (Ok s) = record { bytes = s.bytes; pivot = bits_of s.smallest; solved = true }
+told (Err e) = record { bytes = length (refused_text e); pivot = 0; solved = false }
 
--- the list is too short for every text, and stays as it stood
-pub record Unwritten (out after : List ℕ) (a : Answer) : Type 0 where
-  pub short : length out < 320
-  pub list : after ≡ out
-  pub answer : a ≡ record { bytes = 0; pivot = 0; solved = false }
+-- where the refusal stands in the list, the other bytes of it stay
+abbrev pub told_in : Result Solved Refusal → (out sheet : List ℕ) → List ℕ
+told_in (Ok s) out sheet = sheet
+told_in (Err e) out sheet = written (refused_text e) out
 
-abbrev pub Answered : List ℕ → List ℕ → List ℕ → Answer → Type 0
-Answered card out after a = Unwritten out after a ⊎ ((320 ≤ length out) × (Sheet card out after a ⊎ Refused card out after a))
+-- a list of fewer than 320 bytes is too short for every text
+
+abbrev pub card_answer : List ℕ → List ℕ → Answer
+card_answer card out = cond (nat_le 320 (length out)) (told (solve_answer card (length out))) (record { bytes = 0; pivot = 0; solved = false })
+
+abbrev pub card_after : List ℕ → List ℕ → List ℕ
+card_after card out = cond (nat_le 320 (length out)) (told_in (solve_answer card (length out)) out (solve_after card out)) out

@@ -1,18 +1,17 @@
 //! One function for programs in C and in Rust: solves the job of a card, and writes what its plan shows then, or why the card is refused.
 //!
-//! The library calls C's functions on memory alone: `malloc`, `realloc` and `free`, by way of the kit's `liblibc_c.a`, and those that copy and fill.
+//! It takes no memory: of C's functions the library calls only those that copy and fill.
 #![tactic(auto)]
 
 ghost use Rattle.std.specs.Prelude.{◌≡◌, ◌≤◌, length, false};
 ghost use Rattle.print.specs.Printing.{refused_text};
 ghost use Rattle.solver.specs.Outcomes.{written};
-ghost use Rattle.solver_c.specs.Outcomes.{Answered};
+ghost use Rattle.solver_c.specs.Outcomes.{card_answer, card_after};
 
 use lines::ROOM;
 use opening::Refusal;
 use print::print_refusal;
 use solver::solve_card;
-use std::alloc::Global;
 use wire::bits;
 
 /// What became of a card.
@@ -59,14 +58,15 @@ fn refuse(refusal: &Refusal, out: &mut [u8]) -> Answer
 ///
 /// The two lists lie apart, neither pointer is null, and nothing else reads or writes them during the call.
 #[unsafe(no_mangle)]
-pub extern "C" fn solver_c_solve_card(heap: Global, card: &[u8], out: &mut [u8]) -> Answer
-    ensures value { Answered card.now out.old out.new result }
+pub extern "C" fn solver_c_solve_card(card: &[u8], out: &mut [u8]) -> Answer
+    ensures answer { result ≡ card_answer card.now out.old }
+    ensures after { out.new ≡ card_after card.now out.old }
     ensures fits { result.bytes ≤ length out.old }
 {
     if out.len() < ROOM {
         return unsolved(0);
     }
-    match solve_card(heap, card, out) {
+    match solve_card(card, out) {
         Ok(solved) => Answer {
             bytes: solved.bytes,
             pivot: bits(solved.smallest),

@@ -1,27 +1,46 @@
-use Rattle.std.proofs.Common.{◌≡◌, Err, Result, sym, subst, rules}
-use Rattle.opening.specs.declared.refusal.Refusal.{Refusal}
+use Rattle.std.proofs.Common.{◌≡◌, Err, None, ◌∙◌, rules}
 use Rattle.card.specs.Grids.{grid_of}
 use Rattle.calls.specs.States.{State}
+use Rattle.calls.specs.Solving.{report}
 use Rattle.plan.specs.View.{view}
-use Rattle.solver.specs.declared.solved.Solved.{Solved}
-use Rattle.solver.specs.Outcomes.{Comes}
+use Rattle.plan.proofs.Refused.{given_of}
+use Rattle.sheet.specs.Loading.{load_answer}
 use Rattle.solver.proofs.Printing.{printed, refused}
 use Rattle.solver.proofs.solve_card.Goals as goal
 
-pub returns-in_err-bytes-clause-value : goal.returns-in_err-bytes-clause-value
-returns-in_err-bytes-clause-value c =
+pub returns-in_err-bytes-clause-answer : goal.returns-in_err-bytes-clause-answer
+returns-in_err-bytes-clause-answer c =
     let s : State = view grid_of grid_of c.in_ok-plan.plan in
     let t : State = view grid_of grid_of c.solve.new.self in
+    let r = c.in_ok-report in
     let p = c.in_err-bytes.ensures in
     let e : c.from_residual-in_err-bytes.result ≡ Err c.in_err-bytes.field-0.0 = search rules in
-    subst (λ (r : Result Solved Refusal). Comes c.args.card.now c.args.out.now c.print_plan.new.out r) (sym e)
-    (refused c.args.card.now c.args.out.now c.print_plan.new.out s t c.in_ok-report.report c.in_ok-plan.ensures.answer c.in_ok-report.ensures.value
-    c.in_err-bytes.field-0.0 p.answer p.after)
+    e ∙ (refused (load_answer c.args.card.now) c.args.out.now c.print_plan.new.out s t r.report c.in_ok-plan.ensures.answer (given_of None (report s 1000 100000) r.report r.ensures.answer) r.ensures.after
+    c.in_err-bytes.field-0.0 p.answer p.after).answer
 
-pub returns-clause-value : goal.returns-clause-value
-returns-clause-value c =
+pub returns-in_err-bytes-clause-after : goal.returns-in_err-bytes-clause-after
+returns-in_err-bytes-clause-after c =
     let s : State = view grid_of grid_of c.in_ok-plan.plan in
     let t : State = view grid_of grid_of c.solve.new.self in
-    let e = c.in_ok-bytes.ensures in
-    printed c.args.card.now c.args.out.now c.print_plan.new.out s t c.in_ok-report.report c.in_ok-plan.ensures.answer c.in_ok-report.ensures.value
-    c.in_ok-bytes.bytes e.answer e.after
+    let r = c.in_ok-report in
+    let p = c.in_err-bytes.ensures in
+    (refused (load_answer c.args.card.now) c.args.out.now c.print_plan.new.out s t r.report c.in_ok-plan.ensures.answer (given_of None (report s 1000 100000) r.report r.ensures.answer) r.ensures.after
+    c.in_err-bytes.field-0.0 p.answer p.after).after
+
+pub returns-clause-answer : goal.returns-clause-answer
+returns-clause-answer c =
+    let s : State = view grid_of grid_of c.in_ok-plan.plan in
+    let t : State = view grid_of grid_of c.solve.new.self in
+    let r = c.in_ok-report in
+    let p = c.in_ok-bytes.ensures in
+    (printed (load_answer c.args.card.now) c.args.out.now c.print_plan.new.out s t r.report c.in_ok-plan.ensures.answer (given_of None (report s 1000 100000) r.report r.ensures.answer) r.ensures.after
+    c.in_ok-bytes.bytes p.answer p.after).answer
+
+pub returns-clause-after : goal.returns-clause-after
+returns-clause-after c =
+    let s : State = view grid_of grid_of c.in_ok-plan.plan in
+    let t : State = view grid_of grid_of c.solve.new.self in
+    let r = c.in_ok-report in
+    let p = c.in_ok-bytes.ensures in
+    (printed (load_answer c.args.card.now) c.args.out.now c.print_plan.new.out s t r.report c.in_ok-plan.ensures.answer (given_of None (report s 1000 100000) r.report r.ensures.answer) r.ensures.after
+    c.in_ok-bytes.bytes p.answer p.after).after
