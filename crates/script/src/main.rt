@@ -1,12 +1,18 @@
-//! A script of calls on a small job, run through `session`. The stored output was written by hand from the rules.
+//! A script of calls on a small job, run through `session`: over tables of records, over a card, and over layers that come to the same numbers.
+//! The stored output was written by hand from the rules.
 #![tactic(auto)]
 
 use calls::{Amendment, Dropped, Found, Report, Shown};
+use card::CardTable;
 use opening::Refusal;
 use session::{Answer, Asked, Call, Pair, session};
+use sheet::write;
 use small_job::{CURVATURE, LISTS, ROW};
 use std::io;
-use table::Triplets;
+use table::{Flip, Record, Sum, Table, Triplets};
+
+/// How many bytes the card of J has.
+const BYTES: usize = 3584;
 
 fn print_refusal(rt: &HostRuntime, refusal: &Refusal) -> io::Result<()> {
     println!(rt; "{}", refusal.notice())
@@ -74,10 +80,15 @@ fn limits<'a>(lo: i64, hi: i64) -> Call<'a> {
     Call::Amend(Amendment::Row { index: 0, lo, hi })
 }
 
-/// Makes the calls on a plan of J.
-fn run_calls(rt: &HostRuntime, asked: &mut [Asked]) -> io::Result<()> {
-    let g = Triplets::new(2, 2, &CURVATURE);
-    let a = Triplets::new(1, 2, &ROW);
+/// Opens J over two tables, and makes the calls on it.
+fn run_over<G: Table + Drop, A: Table + Drop>(
+    rt: &HostRuntime,
+    name: &str,
+    g: G,
+    a: A,
+    asked: &mut [Asked],
+) -> io::Result<()> {
+    println!(rt; "over {name}")?;
     match session(g, a, &LISTS, asked) {
         Ok(()) => {
             for slot in asked.iter() {
@@ -89,7 +100,13 @@ fn run_calls(rt: &HostRuntime, asked: &mut [Asked]) -> io::Result<()> {
     }
 }
 
-fn run(rt: &HostRuntime) -> anyhow::Result<()> {
+/// Makes the script's calls on J over two tables.
+fn run_script<G: Table + Drop, A: Table + Drop>(
+    rt: &HostRuntime,
+    name: &str,
+    g: G,
+    a: A,
+) -> io::Result<()> {
     let mut lists = [[0i64; 2]; 6];
     let mut long = [0i64; 3];
     let [opened, offered, closed, amended, refuted, solved] = &mut lists;
@@ -128,7 +145,61 @@ fn run(rt: &HostRuntime) -> anyhow::Result<()> {
         Call::Show(solved),
     ]
     .map(Asked::new);
-    run_calls(rt, &mut asked)?;
+    run_over(rt, name, g, a, &mut asked)
+}
+
+/// J over a flip of each of its tables: the row stands as a column below.
+fn over_flips(rt: &HostRuntime) -> io::Result<()> {
+    let column = [Record::new(0, 0, 1), Record::new(1, 0, 1)];
+    let g = Flip::over(Triplets::new(2, 2, &CURVATURE));
+    let a = Flip::over(Triplets::new(2, 1, &column));
+    run_script(rt, "flips", g, a)
+}
+
+/// J over its card, and over sums that a card with half of its numbers and records make up.
+fn over_cards(rt: &HostRuntime, card: &[u8], half: &[u8]) -> io::Result<()> {
+    let g = CardTable::curvature(card);
+    let a = CardTable::rows(card);
+    run_script(rt, "a card", g, a)?;
+    let ones = [Record::new(0, 0, 1), Record::new(1, 1, 1)];
+    let rest = Triplets::new(2, 2, &ones);
+    let g = Sum::of(CardTable::curvature(half), rest);
+    let last = [Record::new(0, 1, 1)];
+    let a = Sum::of(CardTable::rows(half), Triplets::new(1, 2, &last));
+    run_script(rt, "sums of a card and records", g, a)?;
+    let g = Flip::over(Sum::of(rest, CardTable::curvature(half)));
+    let last = [Record::new(1, 0, 1)];
+    let flipped = Flip::over(CardTable::rows(half));
+    let a = Flip::over(Sum::of(flipped, Triplets::new(2, 1, &last)));
+    run_script(rt, "flips of sums", g, a)
+}
+
+/// Writes a card of the lists of J and these records.
+fn write_card(
+    rt: &HostRuntime,
+    g: &[Record],
+    a: &[Record],
+    card: &mut [u8; BYTES],
+) -> io::Result<()> {
+    let g = Triplets::new(2, 2, g);
+    let a = Triplets::new(1, 2, a);
+    if let Err(refusal) = write(&g, &a, &LISTS, card) {
+        print_refusal(rt, &refusal)?;
+    }
+    Ok(())
+}
+
+fn run(rt: &HostRuntime) -> anyhow::Result<()> {
+    let g = Triplets::new(2, 2, &CURVATURE);
+    let a = Triplets::new(1, 2, &ROW);
+    run_script(rt, "records", g, a)?;
+    over_flips(rt)?;
+    let mut card = [0u8; BYTES];
+    write_card(rt, &CURVATURE, &ROW, &mut card)?;
+    let mut half = [0u8; BYTES];
+    let ones = [Record::new(0, 0, 1), Record::new(1, 1, 1)];
+    write_card(rt, &ones, &[Record::new(0, 0, 1)], &mut half)?;
+    over_cards(rt, &card, &half)?;
     Ok(())
 }
 
