@@ -1,2 +1,2 @@
 mod Rooms
-mod Points
+pub mod Points

@@ -3,8 +3,9 @@
 //! It takes no memory: of C's functions the library calls only those that copy and fill.
 #![tactic(auto)]
 
-ghost use Rattle.std.specs.Prelude.{◌≡◌, ◌≤◌, length, false};
+ghost use Rattle.std.specs.Prelude.{◌≡◌, ◌≤◌, length, take, true, false};
 ghost use Rattle.print.specs.Printing.{refused_text};
+ghost use Rattle.solver.specs.Honest.{HonestSheet};
 ghost use Rattle.solver.specs.Outcomes.{written};
 ghost use Rattle.solver_c.specs.Outcomes.{card_answer, card_after};
 
@@ -47,7 +48,7 @@ fn refuse(refusal: &Refusal, out: &mut [u8]) -> Answer
 }
 
 /// Solves the job of a card with at most 1,000 steps and 100,000 moves, and writes at the start of a list what the plan shows then, or the card's
-/// refusal. The bytes past the text stay. A list of fewer than 320 bytes stays as it stood, and nothing is solved.
+/// refusal. What the sheet tells is honest about the problem that the card states. The bytes past the text stay. A list of fewer than 320 bytes stays as it stood, and nothing is solved.
 ///
 /// To C the function is
 ///
@@ -62,6 +63,7 @@ pub extern "C" fn solver_c_solve_card(card: &[u8], out: &mut [u8]) -> Answer
     ensures answer { result ≡ card_answer card.now out.old }
     ensures after { out.new ≡ card_after card.now out.old }
     ensures fits { result.bytes ≤ length out.old }
+    ensures law { result.solved ≡ true → HonestSheet card.now (take result.bytes out.new) }
 {
     if out.len() < ROOM {
         return unsolved(0);

@@ -6,6 +6,7 @@ use Rattle.plan.specs.View.{view}
 use Rattle.plan.proofs.Refused.{given_of}
 use Rattle.sheet.specs.Loading.{load_answer}
 use Rattle.solver.proofs.Printing.{printed, refused}
+use Rattle.solver.proofs.Truth.{honest_sheet}
 use Rattle.solver.proofs.solve_card.Goals as goal
 
 pub returns-in_err-bytes-clause-answer : goal.returns-in_err-bytes-clause-answer
@@ -44,3 +45,7 @@ returns-clause-after c =
     let p = c.in_ok-bytes.ensures in
     (printed (load_answer c.args.card.now) c.args.out.now c.print_plan.new.out s t r.report c.in_ok-plan.ensures.answer (given_of None (report s 1000 100000) r.report r.ensures.answer) r.ensures.after
     c.in_ok-bytes.bytes p.answer p.after).after
+
+pub returns-clause-law : goal.returns-clause-law
+returns-clause-law c =
+    honest_sheet c.args.card.now c.args.out.now c.print_plan.new.out _ (returns-clause-answer c) (returns-clause-after c)
