@@ -95,7 +95,8 @@ pub record Elimination (s : Float) (ls ms : List (List Float)) (t : Float) (us :
   pub size : Least (s ∷ sizes pivots) t
   pub end : Ends (length ls) (length pivots) ms us
 
--- Law: a system of at most 32 unknowns has such an elimination, and none that leaves other lines, has another answer or a smallest size that is less or more. A larger system is stuck, and nothing is done.
+-- Law: a system of at most 32 unknowns has such an elimination, and none that leaves other lines, has another answer or a smallest size that is less or more.
+-- A larger system is stuck, and nothing is done.
 pub record Eliminates (s : Float) (ls ms : List (List Float)) (t : Float) (us : Option (List Float)) : Type 0 where
   pub run : length ls ≤ 32 → Elimination s ls ms t us
   pub only : (ns : List (List Float)) (u : Float) (vs : Option (List Float)) → length ls ≤ 32 → Elimination s ls ns u vs → (ns ≡ ms) × (vs ≡ us) × (¬ (u <ᶠ t)) × (¬ (t <ᶠ u))
