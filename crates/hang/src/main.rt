@@ -2,29 +2,24 @@
 #![tactic(auto)]
 
 use anyhow::anyhow;
+use block::Block;
 use lines::ROOM;
-use print::print_refusal;
-use solver::solve_card;
+use solver::tell_card;
 use std::io::{Read, Write};
 
 /// One byte more than the longest card, so that a longer one is seen to be too long.
-const MOST: u64 = 7681;
+const MOST: u64 = 15 * Block::BYTES as u64 + 1;
 
 fn run(rt: &HostRuntime) -> anyhow::Result<()> {
     let mut card = Vec::new(rt.alloc());
     rt.stdin().take(MOST).read_to_end(&mut card)?;
     let mut text = [0u8; ROOM];
-    match solve_card(card.as_slice(), &mut text) {
-        Ok(solved) => {
-            rt.stdout().write_all(&text[..solved.bytes])?;
-            Ok(())
-        }
-        Err(refusal) => {
-            if let Ok(bytes) = print_refusal(&refusal, &mut text) {
-                rt.stdout().write_all(&text[..bytes])?;
-            }
-            Err(anyhow!("the card is refused"))
-        }
+    let told = tell_card(card.as_slice(), &mut text);
+    rt.stdout().write_all(&text[..told.bytes])?;
+    if told.solved {
+        Ok(())
+    } else {
+        Err(anyhow!("the card is refused"))
     }
 }
 

@@ -5,8 +5,7 @@
 #![tactic(auto)]
 
 use lines::ROOM;
-use print::print_refusal;
-use solver::solve_card;
+use solver::tell_card;
 use std::io::{Read, Write};
 use std::iter;
 use wire::{bits, run, word};
@@ -22,17 +21,11 @@ fn card<'a>(input: &mut &'a [u8]) -> Option<&'a [u8]> {
 
 fn show_card(rt: &HostRuntime, card: &[u8]) -> anyhow::Result<()> {
     let mut text = [0u8; ROOM];
-    match solve_card(card, &mut text) {
-        Ok(solved) => {
-            rt.stdout().write_all(&text[..solved.bytes])?;
-            let pivot = bits(solved.smallest);
-            println!(rt; "pivot {pivot}")?;
-        }
-        Err(refusal) => {
-            if let Ok(bytes) = print_refusal(&refusal, &mut text) {
-                rt.stdout().write_all(&text[..bytes])?;
-            }
-        }
+    let told = tell_card(card, &mut text);
+    rt.stdout().write_all(&text[..told.bytes])?;
+    if told.solved {
+        let pivot = bits(told.smallest);
+        println!(rt; "pivot {pivot}")?;
     }
     Ok(())
 }

@@ -6,11 +6,15 @@ ghost use Rattle.solver.specs.Honest.{HonestSheet};
 ghost use Rattle.solver.specs.Outcomes.{solve_answer, solve_after};
 
 mod solved;
+mod tells;
+mod told;
 
 use opening::Refusal;
 use print::print_plan;
 use sheet::load;
 pub use solved::Solved;
+pub use tells::tell_card;
+pub use told::Told;
 
 /// Steps of the exchange.
 const STEPS: u64 = 1_000;

@@ -4,9 +4,9 @@ use Rattle.opening.specs.declared.refusal.Refusal.{Refusal}
 use Rattle.print.specs.Printing.{refused_text}
 use Rattle.solver.specs.declared.solved.Solved.{Solved}
 use Rattle.solver.specs.Outcomes.{written, solve_answer, solve_after}
+use Rattle.solver.specs.Telling.{told_in}
 use Rattle.solver.proofs.Printing.{refusal_stays}
-use Rattle.solver_c.specs.Outcomes.{told_in}
-use Rattle.solver_c.proofs.solver_c_solve_card.Goals as goal
+use Rattle.solver.proofs.tells.tell_card.Goals as goal
 
 pub returns-in-Err-clause-after : goal.returns-in-Err-clause-after
 returns-in-Err-clause-after c =
