@@ -12,7 +12,7 @@ pub returns-in-Err-clause-after : goal.returns-in-Err-clause-after
 returns-in-Err-clause-after c =
     let card = c.args.card.now in
     let out = c.args.out.now in
-    let room : 320 ≤ length out = let k = c.if-out-lt-ROOM.false in omega arith in
+    let room : 320 ≤ length out = omega arith in
     let e : Err c.in-Err.refusal ≡ solve_answer card (length out) = c.in-Err.ensures.answer in
     let same : c.solve_card.new.out ≡ out = c.in-Err.ensures.after ∙ refusal_stays card out c.in-Err.refusal e in
     c.refuse.ensures.list ∙ ap (written (refused_text c.in-Err.refusal)) same
