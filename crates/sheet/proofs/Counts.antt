@@ -10,7 +10,7 @@ use Rattle.block.specs.declared.kind.Kind.TheVariants.{Costs, Bounds, Limits, Sl
 use Rattle.section.specs.Layout.{blocks_for, count_of, first_of}
 use Rattle.section.specs.Numbers.{numbers_from, numbers_in}
 use Rattle.table.specs.Grid.{Grid}
-use Rattle.card.specs.Faults.{n_of, m_of, card_check}
+use Rattle.card.specs.Faults.{card_check}
 use Rattle.card.specs.Grids.{curvature_grid, rows_grid}
 use Rattle.opening.specs.Opening.{Numbers}
 use Rattle.sheet.specs.Reading.{Job, job_on, lists_of, lists_in, lists_on, lower, passed_or, read_answer, upper}

@@ -1,7 +1,7 @@
 -- The contents of a job's card, and what is written of them.
 use Rattle.std.proofs.Common.{◌≡◌, ℕ, ◌*◌, ◌≤◌, Bool, true, cond, leb, List, [], ◌∷◌, ◌++◌, length, drop, ℤ, pos, IfOk, IsOk, IsSome, Some, None, Ok, Err, Option, Result, sym, refl, ap, ◌∙◌, subst, arith}
 use Rattle.std.specs.Option.{option_or}
-use Rattle.std.proofs.lemmas.List.{append-nil, length-append}
+use Rattle.std.proofs.lemmas.List.{length-append}
 use Rattle.std.proofs.lemmas.Bool.{le-leb}
 use Rattle.block.specs.declared.fault.Fault.{Fault}
 use Rattle.block.specs.declared.fault.Fault.TheVariants.{Short}
@@ -23,7 +23,6 @@ use Rattle.opening.specs.declared.refusal.Refusal.{Refusal}
 use Rattle.opening.specs.declared.refusal.Refusal.TheVariants.{Card}
 use Rattle.opening.proofs.Firsts.{or_both}
 use Rattle.opening.specs.Firsts.{unless}
-use Rattle.reading.specs.Plain.{listed}
 use Rattle.reading.proofs.Listed.{listed_long}
 use Rattle.sheet.specs.declared.job_numbers.JobNumbers.{JobNumbers}
 use Rattle.sheet.specs.Gathering.{Gathers, Lends}

@@ -1,5 +1,5 @@
 -- Numbers of eight bytes that four bytes hold.
-use Rattle.std.proofs.Common.{◌≡◌, ℕ, ◌+◌, ◌-◌, ◌*◌, ◌/◌, ◌%◌, ◌<◌, ◌≤◌, List, [], ◌∷◌, ◌++◌, map, length, get_or, take, ℤ, pos, nat_abs, sym, refl, subst, ap, ⊎_elim, ◌∙◌, arith, w32, w64, SFits, to_z, of_z}
+use Rattle.std.proofs.Common.{◌≡◌, ℕ, ◌+◌, ◌*◌, ◌/◌, ◌%◌, ◌<◌, ◌≤◌, List, [], ◌∷◌, ◌++◌, length, get_or, take, ℤ, pos, nat_abs, sym, subst, ap, ⊎_elim, ◌∙◌, arith, w32, w64, SFits, to_z, of_z}
 use Rattle.duality.specs.Sums.{Matrix}
 use Rattle.table.specs.Grid.{Grid, matrix_of}
 use Rattle.table.proofs.Bounds.{matrix_near}
@@ -7,7 +7,7 @@ use Rattle.opening.specs.Fits.{Near}
 use Rattle.reading.specs.Plain.{listed}
 use Rattle.reading.proofs.Listed.{listed_at, listed_long}
 use Rattle.std.proofs.lemmas.Nat.{div-add-mod', div_below, mod_below}
-use Rattle.std.proofs.lemmas.List.{length-append, get_or_append_left, get_or-append_right, get_or_default, append_assoc, take_more}
+use Rattle.std.proofs.lemmas.List.{append_assoc, take_more}
 use Rattle.std.proofs.lemmas.Bool.{cases_lt}
 use Rattle.std.proofs.lemmas.Int.{ints, to_z-of_z}
 

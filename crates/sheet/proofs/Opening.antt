@@ -2,7 +2,6 @@
 use Rattle.std.proofs.Common.{◌≡◌, ℕ, List, Ok, Err, Result, sym, refl, ap, ◌∙◌, arith}
 use Rattle.block.specs.Checks.{Verdict}
 use Rattle.card.specs.Faults.{card_check}
-use Rattle.card.specs.Grids.{curvature_grid, rows_grid}
 use Rattle.opening.specs.Firsts.{unless}
 use Rattle.opening.specs.Opening.{Numbers, open_fault}
 use Rattle.opening.specs.declared.refusal.Refusal.{Refusal}

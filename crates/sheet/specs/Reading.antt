@@ -55,8 +55,11 @@ lists_of x =
       slip = x.slip.items;
     }
 
+abbrev pub job_of : CardJob → Job
+job_of job = record { g = grid_of job.g; a = grid_of job.a; x = lists_of job.lists }
+
 abbrev pub seen : Result CardJob Refusal → Result Job Refusal
-seen (Ok job) = Ok (record { g = grid_of job.g; a = grid_of job.a; x = lists_of job.lists })
+seen (Ok job) = Ok (job_of job)
 seen (Err refusal) = Err refusal
 
 abbrev pub passed_or : {X : Type 0} → Verdict → Result X Refusal → Result X Refusal

@@ -20,8 +20,8 @@ pub(crate) struct CardLists {
 
 /// A job on a card: tables that are read in place out of the card's bytes, and the lists.
 #[derive(Drop)]
-pub(crate) struct CardJob<'a> {
-    pub(crate) g: CardTable<'a>,
-    pub(crate) a: CardTable<'a>,
+pub struct CardJob<'a> {
+    pub g: CardTable<'a>,
+    pub a: CardTable<'a>,
     pub(crate) lists: CardLists,
 }

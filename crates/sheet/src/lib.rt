@@ -8,5 +8,7 @@ mod numbers;
 mod reads;
 mod writes;
 
+pub use card_job::CardJob;
 pub use loads::load;
+pub use reads::read_card;
 pub use writes::write;

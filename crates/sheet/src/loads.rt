@@ -7,7 +7,7 @@ ghost use Rattle.sheet.specs.Laws.{SameAgain};
 ghost use Rattle.sheet.specs.Loading.{load_answer};
 ghost use Rattle.sheet.specs.Reading.{lists_on};
 
-use crate::reads::read_job;
+use crate::reads::read_card;
 use card::CardTable;
 use opening::Refusal;
 use plan::Plan;
@@ -20,6 +20,6 @@ pub fn load<'a>(card: &'a [u8]) -> Result<Plan<CardTable<'a>, CardTable<'a>>, Re
     ensures sound { IfOk result (λ p. Sound (curvature_grid card.now) (rows_grid card.now) (lists_on card.now) (view grid_of grid_of p)) }
     ensures again { SameAgain card.now }
 {
-    let job = read_job(card)?;
-    Plan::open(job.g, job.a, &job.lists.lists())
+    let job = read_card(card)?;
+    Plan::open(job.g, job.a, &job.lists())
 }

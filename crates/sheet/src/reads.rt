@@ -4,7 +4,8 @@ ghost use Rattle.section.specs.Numbers.{numbers_in};
 ghost use Rattle.card.specs.Faults.{n_of, m_of};
 ghost use Rattle.card.specs.Held.{count_on};
 ghost use Rattle.opening.specs.Opening.{numbers_of};
-ghost use Rattle.sheet.specs.Reading.{lists_of, lists_on, read_answer, seen};
+ghost use Rattle.sheet.specs.Laws.{SameAgain};
+ghost use Rattle.sheet.specs.Reading.{job_of, lists_of, lists_on, read_answer, seen};
 
 use crate::card_job::{CardJob, CardLists};
 use arrayvec::ArrayVec;
@@ -39,8 +40,11 @@ fn lists_of(card: &SoundCard) -> CardLists
 }
 
 /// The tables and the lists of a card that passes its check, or the card's first fault.
-pub(crate) fn read_job<'a>(card: &'a [u8]) -> Result<CardJob<'a>, Refusal>
-    ensures { seen result ≡ read_answer card.now }
+///
+/// Where they open, they make up the same card: whoever writes them again writes the same bytes.
+pub fn read_card<'a>(card: &'a [u8]) -> Result<CardJob<'a>, Refusal>
+    ensures answer { seen result ≡ read_answer card.now }
+    ensures again { SameAgain card.now }
 {
     let sound = check_card(card)?;
     Ok(CardJob {
@@ -50,9 +54,17 @@ pub(crate) fn read_job<'a>(card: &'a [u8]) -> Result<CardJob<'a>, Refusal>
     })
 }
 
-impl CardLists {
+impl CardJob<'_> {
     /// The six lists, lent.
-    pub(crate) fn lists(&self) -> Lists<'_>
+    pub fn lists(&self) -> Lists<'_>
+        ensures { numbers_of result ≡ (job_of self.now).x }
+    {
+        self.lists.lists()
+    }
+}
+
+impl CardLists {
+    fn lists(&self) -> Lists<'_>
         ensures { numbers_of result ≡ lists_of self.now }
     {
         let bounds = self.bounds.as_slice();

@@ -2,13 +2,20 @@
 //!
 //! A card of standard input is its length in two bytes, the low one first, and its bytes.
 //! After the sheet of a job comes a line with the 64 bits of its smallest pivot.
+//! A card whose job is solved is also read and written again, and a line tells where that does not give the same bytes.
 #![tactic(auto)]
 
+use block::Block;
 use lines::ROOM;
+use opening::Refusal;
+use sheet::{read_card, write};
 use solver::tell_card;
 use std::io::{Read, Write};
 use std::iter;
 use wire::{bits, run, word};
+
+/// The bytes of the longest card.
+const LONGEST: usize = 15 * Block::BYTES;
 
 /// The cards that one run may have.
 const CARDS: usize = 10_000;
@@ -19,6 +26,14 @@ fn card<'a>(input: &mut &'a [u8]) -> Option<&'a [u8]> {
     Some(run(input, usize::from(len)))
 }
 
+/// Whether the job on a card, written again, is the same card.
+fn is_same_again(card: &[u8]) -> Result<bool, Refusal> {
+    let job = read_card(card)?;
+    let mut again = [0u8; LONGEST];
+    let bytes = write(&job.g, &job.a, &job.lists(), &mut again)?;
+    Ok(again.get(..bytes) == Some(card))
+}
+
 fn show_card(rt: &HostRuntime, card: &[u8]) -> anyhow::Result<()> {
     let mut text = [0u8; ROOM];
     let told = tell_card(card, &mut text);
@@ -26,6 +41,9 @@ fn show_card(rt: &HostRuntime, card: &[u8]) -> anyhow::Result<()> {
     if told.solved {
         let pivot = bits(told.smallest);
         println!(rt; "pivot {pivot}")?;
+        if is_same_again(card) != Ok(true) {
+            println!(rt; "written again, the card has other bytes")?;
+        }
     }
     Ok(())
 }
