@@ -15,8 +15,8 @@ use Rattle.calls.specs.Steps.{amendment, if_allowed}
 use Rattle.calls.specs.Lawful.{LawfulPoint, LawfulProof}
 use Rattle.calls.specs.Offers.{took_all, Among}
 use Rattle.calls.specs.Histories.{Call, offer, amend, solve, show, offers, after, reached, amended_by, in_force, Leaves, Offered}
-use Rattle.calls.specs.Honesty.{Held, Fair, problem_after, AlwaysLawful}
-use Rattle.calls.proofs.Upholding.{Upheld, upheld_for}
+use Rattle.calls.specs.Honesty.{Held, problem_after, HoldsLawfully}
+use Rattle.calls.proofs.Upholding.{Fair, Upheld, upheld_for}
 use Rattle.calls.proofs.Taking.{offers_upheld, offers_same}
 use Rattle.calls.proofs.Amending.{ropes_stay, amend_upheld, amend_same}
 
@@ -149,7 +149,7 @@ reached_fair s past fair =
 not_both : (P : Problem) (z y : List ℤ) → LawfulPoint P z → LawfulProof P y → ⊥
 not_both P z y point proof = none_sound P (places y) proof.refutes (places z) point.feasible
 
-pub always_lawful : AlwaysLawful
+pub always_lawful : (s : State) (past : List Call) → Fair s → HoldsLawfully (reached s past)
 always_lawful s past fair =
     let t = reached s past in
     let u = (keeps s past fair).upheld in

@@ -5,8 +5,8 @@ use Rattle.calls.specs.States.{State}
 use Rattle.calls.specs.Steps.{show_answer, shown_in}
 use Rattle.calls.specs.Opened.{opened}
 use Rattle.calls.specs.Histories.{Call, offer, amend, solve, show, after, reached}
-use Rattle.calls.specs.Honesty.{Fair}
 use Rattle.calls.specs.Runs.{Reply, showed, reply, replies, after_all, first_calls, nth, HonestRun, RunLaw, LeavesAfter, AsOne}
+use Rattle.calls.proofs.Upholding.{Fair}
 use Rattle.calls.proofs.Opened.{opened_fair}
 use Rattle.calls.proofs.Showing.{show_honest}
 

@@ -15,9 +15,9 @@ use Rattle.calls.specs.Lawful.{LawfulPoint, LawfulProof}
 use Rattle.calls.specs.Offers.{Offer}
 use Rattle.calls.specs.Opened.{opened}
 use Rattle.calls.specs.Histories.{Call, reached, Offered}
-use Rattle.calls.specs.Honesty.{Meets, ShowsPoint, GapHolds, SaysNone, ShowsAtMost, Honest, Held, Fair, problem_after, ShowLaw}
+use Rattle.calls.specs.Honesty.{Meets, ShowsPoint, GapHolds, SaysNone, ShowsAtMost, Honest, Held, problem_after, ShowLaw}
 use Rattle.calls.proofs.Opened.{opened_fair}
-use Rattle.calls.proofs.Upholding.{HoldsAtMost, Upheld}
+use Rattle.calls.proofs.Upholding.{Fair, HoldsAtMost, Upheld}
 use Rattle.calls.proofs.Keeping.{Keeps, keeps, problem_is, reached_fair}
 
 -- what is found, by the proof and the point that are held

@@ -1,7 +1,6 @@
 -- What a plan may say of its problem, and that it never says anything else.
 use Rattle.std.specs.Prelude.{◌≡◌, List, length, ℤ, pos, ◌-ℤ◌, ◌*ℤ◌, ◌≤ℤ◌, Some, None, Ok, Option, Result, ◌≢◌}
 use Rattle.table.specs.Grid.{Grid}
-use Rattle.duality.specs.Convex.{Symmetric, Convex}
 use Rattle.duality.specs.Lists.{places}
 use Rattle.duality.specs.Problem.{Problem, Feasible, cost}
 use Rattle.evaluate.specs.Stated.{stated}
@@ -54,16 +53,10 @@ pub record Honest (P : Problem) (WasOffered : Offer → Type 0) (r : Shown) (z :
   pub no_point_lost : (x : List ℤ) → WasOffered (point x) → LawfulPoint P x → ShowsAtMost r.found (cost P (places x))
   pub no_floor_lost : (q : Pair) → WasOffered (pair q) → LawfulPair P q → floor_of P q ≤ℤ r.floor
 
--- what is held is lawful, and the cost is convex
+-- what is held is lawful
 abbrev pub Held : Option (List ℤ) → (List ℤ → Type 0) → Type 0
 Held None P = Unit {0}
 Held (Some x) P = P x
-
-pub record Fair (s : State) : Type 0 where
-  pub point_lawful : Held s.point (LawfulPoint (problem s))
-  pub proof_lawful : Held s.proof (LawfulProof (problem s))
-  pub symmetric : Symmetric (problem s).ropes (problem s).G
-  pub convex : Convex (problem s).ropes (problem s).G
 
 -- the problem in force after the calls of a history
 abbrev pub problem_after : State → List Call → Problem
@@ -87,4 +80,4 @@ pub record HoldsLawfully (t : State) : Type 0 where
   pub not_both : (z y : List ℤ) → t.point ≡ Some z → t.proof ≢ Some y
 
 abbrev pub AlwaysLawful : Type 0
-AlwaysLawful = (s : State) (past : List Call) → Fair s → HoldsLawfully (reached s past)
+AlwaysLawful = (g a : Grid) (x : Numbers) (past : List Call) (t : State) → StandsAfter g a x past t → HoldsLawfully t

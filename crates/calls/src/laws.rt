@@ -2,7 +2,7 @@
 ghost use Rattle.calls.specs.Honesty.{AlwaysLawful};
 ghost use Rattle.calls.specs.Runs.{RunsCompose};
 
-/// Whatever calls are made on a fair plan, refused ones included, what it holds stays lawful, and it never holds a point together with a proof of none.
+/// Whatever opening and whatever calls led to a plan, refused ones included, what it holds is lawful, and it never holds a point together with a proof of none.
 pub fn held_is_lawful()
     ensures { AlwaysLawful }
 {}

@@ -2,6 +2,7 @@
 #![tactic(auto)]
 
 use anyhow::anyhow;
+use block::Block;
 use card::{CardTable, Kind, SoundCard, check_card};
 use std::alloc::{AllocError, Global};
 use std::io;
@@ -9,7 +10,7 @@ use std::io::Read;
 use table::Table;
 
 /// One byte more than the longest card, so that a longer one is seen to be too long.
-const MOST: u64 = 7681;
+const MOST: u64 = 15 * Block::BYTES as u64 + 1;
 
 /// Prints a section, if the card has it: its letter, its first block and how many numbers it has.
 fn print_section(rt: &HostRuntime, card: &SoundCard, kind: Kind) -> io::Result<()> {
@@ -66,8 +67,7 @@ fn run(rt: &HostRuntime) -> anyhow::Result<()> {
             Ok(())
         }
         Err(fault) => {
-            let notice = fault.notice();
-            println!(rt; "refused {} at {}", notice.number, notice.first)?;
+            println!(rt; "{fault}")?;
             Err(anyhow!("the card is refused"))
         }
     }

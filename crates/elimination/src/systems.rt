@@ -42,7 +42,6 @@ pub fn solve(lines: &mut [[f64; LINE_PLACES]], mut smallest: f64) -> Solution
     ensures run { Eliminates smallest lines.old lines.new result.smallest (option_map (take (length lines.old)) result.unknowns) }
     ensures law { Solves (length lines.old) (solved_in smallest lines.old).1 }
 {
-    // Lines with a number of places and no `Vec`, because a step of the exchange takes no memory.
     let unknowns = if lines.len() > MOST_UNKNOWNS {
         None
     } else {

@@ -11,7 +11,7 @@ use terms::MOST_ROPES;
 
 /// An exchange under way: its job, its working set in the order in which the members entered, and the smallest pivot so far.
 ///
-/// The set never holds a limit twice, on one side or on both, and never has more members than there are ropes. It takes no memory from the heap.
+/// The set never holds a limit twice, on one side or on both, and never has more members than there are ropes. It lies in places of a fixed size.
 #[derive(Drop)]
 pub struct Exchange<'a> {
     pub(crate) job: &'a Job,

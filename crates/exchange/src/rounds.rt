@@ -14,7 +14,6 @@ pub(crate) fn rounded(unknowns: &[f64]) -> [i64; MOST_ROPES]
     requires { length unknowns.now ≤ 16 }
     ensures { result ≡ filled 16 (pulled unknowns.now) }
 {
-    // An array, because a step of the exchange takes no memory.
     let mut whole = [0; MOST_ROPES];
     for (k, x) in unknowns.iter().enumerate() {
         whole[k] = nearest(*x);

@@ -15,7 +15,7 @@ impl<G: Table, A: Table> Plan<G, A> {
     /// Shows the floor, and that no point exists if a proof of that is held, else cost and gap of a held point, else that there is no point.
     ///
     /// A point that is shown is written into the list, which must have a number for each rope; otherwise, and where it is refused, the list stays.
-    /// Whatever calls led here from a fair start, as every newly opened plan is, what is shown is true of the numbers in force, and no lawful offer was lost.
+    /// Whatever opening and whatever calls led here, what is shown is true of the numbers in force, and no lawful offer was lost.
     pub fn show(&self, out: &mut [i64]) -> Result<Shown, Refusal>
         ensures answer { result ≡ show_answer (view G.Table.meant A.Table.meant self.now) (length out.old) }
         ensures wrote { out.new ≡ shown_in (view G.Table.meant A.Table.meant self.now) out.old }

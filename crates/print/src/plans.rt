@@ -14,7 +14,7 @@ use terms::MOST_ROPES;
 /// Writes what a solve did and what the plan shows at the start of a list, and answers how many bytes that has. The bytes past it stay.
 /// Refuses a list of fewer than 320 bytes, which stays as it stood.
 ///
-/// What is printed is what `show` answers: whatever calls led here from a fair start, it is true of the numbers in force, and no lawful offer was lost.
+/// What is printed is what `show` answers: whatever opening and whatever calls led here, it is true of the numbers in force, and no lawful offer was lost.
 pub fn print_plan<G: Table, A: Table>(
     plan: &Plan<G, A>,
     report: &Report,

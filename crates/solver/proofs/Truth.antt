@@ -12,7 +12,7 @@ use Rattle.calls.specs.States.{State}
 use Rattle.calls.specs.Steps.{shown}
 use Rattle.calls.specs.Histories.{after, solve}
 use Rattle.calls.specs.Honesty.{ShowLaw}
-use Rattle.calls.specs.Solving.{report}
+use Rattle.calls.specs.Solving.{report, LawfulSolve}
 use Rattle.calls.proofs.Showing.{show_law}
 use Rattle.print.specs.Printing.{point_of}
 use Rattle.print.proofs.Points.{shows_zeros}
@@ -26,6 +26,14 @@ use Rattle.solver.specs.Honest.{plan_on, HonestSheet}
 prints_shown : (t : State) → ShowLaw t (Ok (shown t)) (point_of t)
 prints_shown t = show_law t (replicate t.numbers.ropes (pos 0)) (Ok (shown t)) (point_of t) (shows_zeros t) refl
 
+-- what is reported of a solve from this state is what it did
+abbrev pub Solves : State → Type 0
+Solves s = LawfulSolve s 1000 100000 (report s 1000 100000)
+
+-- two states that a card loads as are one
+pub same_state : (o : Result State Refusal) (s t : State) → Ok s ≡ o → Ok t ≡ o → s ≡ t
+same_state o s t a b = cc
+
 -- a card that loads has no fault, and loads as the plan just opened
 module _ (card : List ℕ) (s : State) where
   loaded : (v : Verdict) (o : Option Refusal) → Ok s ≡ passed_or v (unless o (plan_on card)) → (o ≡ None) × (s ≡ plan_on card)
@@ -33,23 +41,25 @@ module _ (card : List ℕ) (s : State) where
   loaded (Ok u) (Some f) e = let z : ◌≡◌ {A = ℕ} 0 1 = cc in absurd (omega arith)
   loaded (Err f) o e = let z : ◌≡◌ {A = ℕ} 0 1 = cc in absurd (omega arith)
 
-  honest_text : Ok s ≡ load_answer card → HonestSheet card (solved_text s)
-  honest_text e =
+  honest_text : Ok s ≡ load_answer card → Solves s → HonestSheet card (solved_text s)
+  honest_text e solves =
       let opens = loaded (card_check card) (open_fault (curvature_grid card) (rows_grid card) (lists_on card)) e in
       let t = after (plan_on card) (solve 1000 100000) in
+      let lawful : Solves (plan_on card) = subst Solves opens.1 solves in
       subst (λ (u : State). HonestSheet card (solved_text u)) (sym opens.1)
       (record {
         report = report (plan_on card) 1000 100000;
         shown = shown t;
         point = point_of t;
         lines = refl;
+        solved = lawful;
         honest =
             prints_shown t (curvature_grid card) (rows_grid card) (lists_on card) (solve 1000 100000 ∷ [])
             (record { opens = opens.0; stands = refl }) (shown t) refl;
       })
 
 -- of what the call answers and leaves
-module _ (card out list : List ℕ) where
+module _ (card out list : List ℕ) (solves : (s : State) → Ok s ≡ load_answer card → Solves s) where
   with_room : (b : Bool) (s : State) (r : Result Solved Refusal) → Ok s ≡ load_answer card → r ≡ cond b (Ok (solved_from s)) (Err (OfferLength 320))
       → list ≡ cond b (written (solved_text s) out) out → IfOk r (λ v. HonestSheet card (take v.bytes list))
   with_room b s (Err e) l er el = tt
@@ -57,7 +67,7 @@ module _ (card out list : List ℕ) where
       let same : v ≡ solved_from s = cc in
       let text : take v.bytes list ≡ solved_text s =
       ap (λ (k : ℕ). take k list) (ap (λ (x : Solved). x.bytes) same) ∙ ap (take (length (solved_text s))) el ∙ take-append_seam (solved_text s) (drop (length (solved_text s)) out) in
-      subst (HonestSheet card) (sym text) (honest_text card s l)
+      subst (HonestSheet card) (sym text) (honest_text card s l (solves s l))
   with_room false s (Ok v) l er el = let z : ◌≡◌ {A = ℕ} 0 1 = cc in absurd (omega arith)
 
   by_loading : (loads : Result State Refusal) (r : Result Solved Refusal) → loads ≡ load_answer card → r ≡ sheet_answer loads (length out)
