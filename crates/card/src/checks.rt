@@ -13,6 +13,9 @@ use crate::sound_card::SoundCard;
 use block::{Block, Fault, number_at};
 use section::{Kind, Sizes, blocks_for};
 
+/// The most bytes that a card has: 15 blocks, as 16 ropes and 32 rows ask for.
+pub const MOST_BYTES: usize = 15 * Block::BYTES;
+
 /// Block `number` of a card that has it.
 fn block_at<'a>(card: &'a [u8], number: u16) -> Block<'a>
     requires { number * 512 + 512 ≤ length card.now }
@@ -26,7 +29,7 @@ fn check_length(len: usize) -> Result<(), Fault>
     ensures value { result ≡ length_check len }
     ensures enough { OnOk result (512 ≤ len) }
 {
-    if (Block::BYTES..=15 * Block::BYTES).contains(&len) && len % Block::BYTES == 0 {
+    if (Block::BYTES..=MOST_BYTES).contains(&len) && len % Block::BYTES == 0 {
         Ok(())
     } else {
         Err(Fault::Length { bytes: len })

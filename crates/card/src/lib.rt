@@ -14,7 +14,7 @@ mod writes;
 
 pub use block::{Fault, Layer, Notice};
 pub use card_table::CardTable;
-pub use checks::check_card;
+pub use checks::{MOST_BYTES, check_card};
 pub use contents::{Contents, Numbers};
 pub use section::{Kind, Section, Sizes};
 pub use sound_card::SoundCard;

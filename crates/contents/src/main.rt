@@ -2,15 +2,14 @@
 #![tactic(auto)]
 
 use anyhow::anyhow;
-use block::Block;
-use card::{CardTable, Kind, SoundCard, check_card};
+use card::{CardTable, Kind, MOST_BYTES, SoundCard, check_card};
 use std::alloc::{AllocError, Global};
 use std::io;
 use std::io::Read;
 use table::Table;
 
 /// One byte more than the longest card, so that a longer one is seen to be too long.
-const MOST: u64 = 15 * Block::BYTES as u64 + 1;
+const MOST: u64 = MOST_BYTES as u64 + 1;
 
 /// Prints a section, if the card has it: its letter, its first block and how many numbers it has.
 fn print_section(rt: &HostRuntime, card: &SoundCard, kind: Kind) -> io::Result<()> {

@@ -2,13 +2,13 @@
 #![tactic(auto)]
 
 use anyhow::anyhow;
-use block::Block;
+use card::MOST_BYTES;
 use lines::ROOM;
 use solver::tell_card;
 use std::io::{Read, Write};
 
 /// One byte more than the longest card, so that a longer one is seen to be too long.
-const MOST: u64 = 15 * Block::BYTES as u64 + 1;
+const MOST: u64 = MOST_BYTES as u64 + 1;
 
 fn run(rt: &HostRuntime) -> anyhow::Result<()> {
     let mut card = Vec::new(rt.alloc());

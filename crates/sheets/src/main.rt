@@ -5,7 +5,7 @@
 //! A card whose job is solved is also read and written again, and a line tells where that does not give the same bytes.
 #![tactic(auto)]
 
-use block::Block;
+use card::MOST_BYTES;
 use lines::ROOM;
 use opening::Refusal;
 use sheet::{read_card, write};
@@ -13,9 +13,6 @@ use solver::tell_card;
 use std::io::{Read, Write};
 use std::iter;
 use wire::{bits, run, word};
-
-/// The bytes of the longest card.
-const LONGEST: usize = 15 * Block::BYTES;
 
 /// The cards that one run may have.
 const CARDS: usize = 10_000;
@@ -29,7 +26,7 @@ fn card<'a>(input: &mut &'a [u8]) -> Option<&'a [u8]> {
 /// Whether the job on a card, written again, is the same card.
 fn is_same_again(card: &[u8]) -> Result<bool, Refusal> {
     let job = read_card(card)?;
-    let mut again = [0u8; LONGEST];
+    let mut again = [0u8; MOST_BYTES];
     let bytes = write(&job.g, &job.a, &job.lists(), &mut again)?;
     Ok(again.get(..bytes) == Some(card))
 }
