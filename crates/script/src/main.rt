@@ -1,14 +1,15 @@
-//! A script of calls on a small job, run through `session`: over tables of records, over a card, and over layers that come to the same numbers.
+//! A script of calls on a small job, made one by one with `run` of `session`: over tables of records, over a card, and over layers that come to the same numbers.
 //! The stored output was written by hand from the rules.
 #![tactic(auto)]
 
 use calls::{Amendment, Dropped, Found, Report, Shown};
 use card::CardTable;
 use opening::Refusal;
-use session::{Answer, Asked, Call, Pair, session};
+use plan::Plan;
+use session::{Answer, Asked, Call, Pair, run};
 use sheet::write;
 use small_job::{CURVATURE, LISTS, ROW};
-use std::io;
+use std::{io, slice};
 use table::{Flip, Record, Sum, Table, Triplets};
 
 /// How many bytes the card of J has.
@@ -80,72 +81,80 @@ fn limits<'a>(lo: i64, hi: i64) -> Call<'a> {
     Call::Amend(Amendment::Row { index: 0, lo, hi })
 }
 
-/// Opens J over two tables, and makes the calls on it.
-fn run_over<G: Table + Drop, A: Table + Drop>(
-    rt: &HostRuntime,
-    name: &str,
-    g: G,
-    a: A,
-    asked: &mut [Asked],
-) -> io::Result<()> {
-    println!(rt; "over {name}")?;
-    match session(g, a, &LISTS, asked) {
-        Ok(()) => {
-            for slot in asked.iter() {
-                print_slot(rt, slot)?;
-            }
-            Ok(())
-        }
-        Err(refusal) => print_refusal(rt, &refusal),
-    }
+/// A solve under these budgets.
+fn solve<'a>(steps: u64, moves: u64) -> Call<'a> {
+    Call::Solve { steps, moves }
 }
 
-/// Makes the script's calls on J over two tables.
+/// Makes a call on a plan, and prints its answer.
+fn make<G: Table, A: Table>(rt: &HostRuntime, plan: &mut Plan<G, A>, call: Call) -> io::Result<()> {
+    let mut slot = Asked::new(call);
+    run(plan, slice::from_mut(&mut slot));
+    print_slot(rt, &slot)
+}
+
+/// Has the plan show what it knows, in a list of some length.
+fn show_into<G: Table, A: Table>(
+    rt: &HostRuntime,
+    plan: &mut Plan<G, A>,
+    list: &mut [i64],
+) -> io::Result<()> {
+    make(rt, plan, Call::Show(list))
+}
+
+/// Has the plan show what it knows, in a list of two numbers as it wants.
+fn show<G: Table, A: Table>(rt: &HostRuntime, plan: &mut Plan<G, A>) -> io::Result<()> {
+    let mut list = [0i64; 2];
+    show_into(rt, plan, &mut list)
+}
+
+/// The first half of the script: a point, a pair, and other limits that leave the point out.
+fn make_offers<G: Table, A: Table>(rt: &HostRuntime, plan: &mut Plan<G, A>) -> io::Result<()> {
+    show(rt, plan)?;
+    make(rt, plan, Call::Point(&[1, 2]))?;
+    show(rt, plan)?;
+    make(rt, plan, Call::Point(&[2, 2]))?;
+    let pair = Pair {
+        point: &[1, 2],
+        multipliers: &[-512],
+    };
+    make(rt, plan, Call::Floor(pair))?;
+    show(rt, plan)?;
+    make(rt, plan, limits(0, 2))?;
+    show(rt, plan)
+}
+
+/// The second half: a proof of none, calls that are refused, and a solve.
+fn make_proofs<G: Table, A: Table>(rt: &HostRuntime, plan: &mut Plan<G, A>) -> io::Result<()> {
+    make(rt, plan, limits(20, 30))?;
+    make(rt, plan, Call::Proof(&[1]))?;
+    make(rt, plan, limits(21, 30))?;
+    make(rt, plan, Call::Proof(&[1]))?;
+    show(rt, plan)?;
+    make(rt, plan, Call::Point(&[1, 2, 3]))?;
+    show_into(rt, plan, &mut [0, 0, 0])?;
+    make(rt, plan, solve(1001, 0))?;
+    make(rt, plan, solve(1000, 1000001))?;
+    make(rt, plan, limits(0, 3))?;
+    make(rt, plan, solve(1000, 100000))?;
+    show(rt, plan)
+}
+
+/// Opens J over two tables, and makes the script's calls on it.
 fn run_script<G: Table + Drop, A: Table + Drop>(
     rt: &HostRuntime,
     name: &str,
     g: G,
     a: A,
 ) -> io::Result<()> {
-    let mut lists = [[0i64; 2]; 6];
-    let mut long = [0i64; 3];
-    let [opened, offered, closed, amended, refuted, solved] = &mut lists;
-    let mut asked = [
-        Call::Show(opened),
-        Call::Point(&[1, 2]),
-        Call::Show(offered),
-        Call::Point(&[2, 2]),
-        Call::Floor(Pair {
-            point: &[1, 2],
-            multipliers: &[-512],
-        }),
-        Call::Show(closed),
-        limits(0, 2),
-        Call::Show(amended),
-        limits(20, 30),
-        Call::Proof(&[1]),
-        limits(21, 30),
-        Call::Proof(&[1]),
-        Call::Show(refuted),
-        Call::Point(&[1, 2, 3]),
-        Call::Show(&mut long),
-        Call::Solve {
-            steps: 1001,
-            moves: 0,
-        },
-        Call::Solve {
-            steps: 1000,
-            moves: 1000001,
-        },
-        limits(0, 3),
-        Call::Solve {
-            steps: 1000,
-            moves: 100000,
-        },
-        Call::Show(solved),
-    ]
-    .map(Asked::new);
-    run_over(rt, name, g, a, &mut asked)
+    println!(rt; "over {name}")?;
+    match Plan::open(g, a, &LISTS) {
+        Ok(mut plan) => {
+            make_offers(rt, &mut plan)?;
+            make_proofs(rt, &mut plan)
+        }
+        Err(refusal) => print_refusal(rt, &refusal),
+    }
 }
 
 /// J over a flip of each of its tables: the row stands as a column below.
@@ -189,7 +198,7 @@ fn write_card(
     Ok(())
 }
 
-fn run(rt: &HostRuntime) -> anyhow::Result<()> {
+fn run_all(rt: &HostRuntime) -> anyhow::Result<()> {
     let g = Triplets::new(2, 2, &CURVATURE);
     let a = Triplets::new(1, 2, &ROW);
     run_script(rt, "records", g, a)?;
@@ -204,5 +213,5 @@ fn run(rt: &HostRuntime) -> anyhow::Result<()> {
 }
 
 fn main(rt: HostRuntime) -> anyhow::Result<()> {
-    run(&rt)
+    run_all(&rt)
 }
