@@ -84,6 +84,8 @@ def try_contents(say):
 
 def try_library(say):
     kit = os.path.dirname(subprocess.run(["rt", "doc"], capture_output=True, check=True, text=True).stdout.strip())
+    # rt ci proves a static library and builds none.
+    subprocess.run(["rt", "lib"], cwd="crates/solver_c", stdout=subprocess.DEVNULL, check=True)
     with tempfile.TemporaryDirectory() as room:
         made = f"{room}/solver_c"
         library = "crates/solver_c/out/libsolver_c.a"
