@@ -69,6 +69,10 @@ StepMeans P ms ps Stuck = Solution P ms ps None
 StepMeans P ms ps (Found o ch) =
     (us : List Float) × Solution P ms ps (Some us) × OfferOf P ms (pulls_of P us) (pressures_of P us) o × Means P ms (pulls_of P us) (pressures_of P us) ch
 
+-- Law of the choice: whatever unknowns a set's system may have, who is chosen then has the meaning of the choice.
+abbrev pub ChosenWell : Problem → List Member → Type 0
+ChosenWell P ms = (us : List Float) → Means P ms (pulls_of P us) (pressures_of P us) (choice_at P ms us)
+
 -- Law: a step means what it says, and no other step does; s is the smallest pivot before it, and t the least of s and those that it takes.
 pub record LawfulStep (P : Problem) (ms : List Member) (s : Float) (st : Step) (t : Float) : Type 0 where
   pub pivots : List Pivot

@@ -4,7 +4,7 @@ ghost use Rattle.job.specs.Numbers.{problem_of};
 ghost use Rattle.elimination.specs.Lines.{at, inside, largest};
 ghost use Rattle.exchange.specs.Systems.{size_of};
 ghost use Rattle.exchange.specs.Offers.{offered};
-ghost use Rattle.exchange.specs.Steps.{changed, Follows, choice_at, step_at, solved_at, members_after, OffersInside, LawfulStep};
+ghost use Rattle.exchange.specs.Steps.{changed, Follows, choice_at, step_at, solved_at, members_after, OffersInside, ChosenWell, LawfulStep};
 
 use crate::exchanges::Exchange;
 use crate::members::{Choice, Offer, Step};
@@ -80,6 +80,7 @@ impl<'a> Exchange<'a> {
         ensures smallest { self.new.smallest ≡ (solved_at (problem_of self.old.job.now) self.old.members.items self.old.smallest).0 }
         ensures job { self.new.job.now ≡ self.old.job.now }
         ensures inside { OffersInside (problem_of self.old.job.now) result }
+        ensures choice { ChosenWell (problem_of self.old.job.now) self.old.members.items }
         ensures law { LawfulStep (problem_of self.old.job.now) self.old.members.items self.old.smallest result self.new.smallest }
     {
         let set = WorkingSet {

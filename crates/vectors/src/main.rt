@@ -6,13 +6,13 @@
 //! Each float stands as m and e for m times 2 to the e; m = 0 with an e above 0 is no number. Floats are answered by their 64 bits,
 //! and the lines that a system leaves by a sum over theirs.
 //! One that begins with 2 is an exchange, written as a walk is, with steps in the place of moves and no point.
+//! Where a line ends early its missing numbers are 0, and missing places of a list make it shorter; a negative size is 0, and so are moves beyond 32 bits.
 #![tactic(auto)]
 
-use anyhow::{Context, anyhow, ensure};
 use elimination::{LINE_PLACES, MOST_UNKNOWNS, Solution, nearest, solve};
 use exchange::{Exchange, Offer, Report, Step, end_after};
 use job::Job;
-use std::alloc::Global;
+use std::alloc::{AllocError, Global};
 use std::io;
 use std::io::{BufRead, BufReader};
 use std::num::nearest_i64_to_f64;
@@ -38,26 +38,24 @@ struct Line<'a> {
 }
 
 impl<'a> Line<'a> {
-    fn number(&mut self) -> anyhow::Result<i64> {
-        let next = self.left.split_off_first().copied();
-        next.ok_or_else(|| anyhow!("a line ends early"))
+    /// The next number, 0 past the line's end.
+    fn number(&mut self) -> i64 {
+        self.left.split_off_first().copied().unwrap_or(0)
     }
 
-    fn size(&mut self) -> anyhow::Result<usize> {
-        let size = usize::try_from(self.number()?);
-        size.context("a size is negative")
+    fn size(&mut self) -> usize {
+        usize::try_from(self.number()).unwrap_or(0)
     }
 
-    fn float(&mut self) -> anyhow::Result<f64> {
-        let m = self.number()?;
-        let e = self.number()?;
-        Ok(scaled(m, e))
+    fn float(&mut self) -> f64 {
+        let m = self.number();
+        let e = self.number();
+        scaled(m, e)
     }
 
-    fn list(&mut self, heap: Global, count: usize) -> anyhow::Result<Vec<i64>> {
-        let list = run(&mut self.left, count);
-        ensure!(list.len() == count, "a line ends early");
-        Ok(Vec::from_slice(heap, list)?)
+    /// The next numbers, or those that are left.
+    fn list(&mut self, heap: Global, count: usize) -> Result<Vec<i64>, AllocError> {
+        Vec::from_slice(heap, run(&mut self.left, count))
     }
 }
 
@@ -96,19 +94,18 @@ fn print_solution(rt: &HostRuntime, n: usize, solution: &Solution) -> io::Result
 }
 
 /// Reads the lines of a system. The place after the right side, where there is one, gets the line's number, which shows where the line goes.
-fn read_lines(line: &mut Line, lines: &mut [[f64; LINE_PLACES]]) -> anyhow::Result<()> {
+fn read_lines(line: &mut Line, lines: &mut [[f64; LINE_PLACES]]) {
     let width = lines.len() + 1;
     let mut number = 0.0;
     for places in lines {
         for x in places.iter_mut().take(width) {
-            *x = line.float()?;
+            *x = line.float();
         }
         if let Some(place) = places.get_mut(width) {
             *place = number;
         }
         number += 1.0;
     }
-    Ok(())
 }
 
 /// A sum over the bits of all places, which tells them apart by where they stand.
@@ -122,16 +119,16 @@ fn sum_of(lines: &[[f64; LINE_PLACES]]) -> u64 {
     sum
 }
 
-fn run_system(rt: &HostRuntime, line: &mut Line) -> anyhow::Result<()> {
-    let n = line.size()?;
-    ensure!(n <= MOST_LINES, "a system has {n} unknowns");
-    let smallest = line.float()?;
+fn run_system(rt: &HostRuntime, line: &mut Line) -> io::Result<()> {
+    // One unknown too many is stuck, and more of them are no other case.
+    let n = line.size().min(MOST_LINES);
+    let smallest = line.float();
     let mut square = [[0.0; LINE_PLACES]; MOST_LINES];
     let lines = &mut square[..n];
-    read_lines(line, lines)?;
+    read_lines(line, lines);
     let solution = solve(lines, smallest);
     print_solution(rt, n, &solution)?;
-    Ok(println!(rt; " left {}", sum_of(lines))?)
+    println!(rt; " left {}", sum_of(lines))
 }
 
 /// A job and the budget.
@@ -141,10 +138,10 @@ struct Case {
     budget: usize,
 }
 
-fn read_case(heap: Global, line: &mut Line) -> anyhow::Result<Option<Case>> {
-    let n = line.size()?;
-    let m = line.size()?;
-    let budget = line.size()?;
+fn read_case(heap: Global, line: &mut Line) -> Result<Option<Case>, AllocError> {
+    let n = line.size();
+    let m = line.size();
+    let budget = line.size();
     let g = line.list(heap, n.saturating_mul(n))?;
     let c = line.list(heap, n)?;
     let a = line.list(heap, n.saturating_mul(m))?;
@@ -158,7 +155,7 @@ fn read_case(heap: Global, line: &mut Line) -> anyhow::Result<Option<Case>> {
 
 /// Walks from the point that the rest of the line has.
 fn run_walk(rt: &HostRuntime, heap: Global, case: &Case, start: &[i64]) -> anyhow::Result<()> {
-    let budget = u32::try_from(case.budget).context("too many moves")?;
+    let budget = u32::try_from(case.budget).unwrap_or(0);
     let mut point = Vec::from_slice(heap, start)?;
     match walk(&case.job, point.as_mut_slice(), budget) {
         Ok(walked) => print!(rt; "walk {} {}", walked.moves, walked.end)?,
@@ -222,9 +219,9 @@ impl From<i64> for Kind {
 }
 
 fn run_line(rt: &HostRuntime, heap: Global, line: &mut Line) -> anyhow::Result<()> {
-    let kind = Kind::from(line.number()?);
+    let kind = Kind::from(line.number());
     if kind == Kind::System {
-        return run_system(rt, line);
+        return Ok(run_system(rt, line)?);
     }
     let Some(case) = read_case(heap, line)? else {
         return Ok(println!(rt; "no job")?);

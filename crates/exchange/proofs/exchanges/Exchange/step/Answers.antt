@@ -34,6 +34,7 @@ returns-in_default c =
       smallest = t;
       job = refl;
       inside = tt;
+      choice = λ us. chosen_means P ms (pulls_of P us) (pressures_of P us) e.few;
       law = step_lawful P ms e.few e.apart (job_ordered j) e.smallest _ _ v t;
     }
 
@@ -98,5 +99,6 @@ returns c =
       smallest = t;
       job = c.follow.ensures.job;
       inside = subst L (sym o) (offered_inside j ms us c.reading-choice.result.1 (omega (arith, w.0, k)));
+      choice = λ xs. chosen_means P ms (pulls_of P xs) (pressures_of P xs) e.few;
       law = step_lawful P ms e.few e.apart (job_ordered j) e.smallest _ _ v t;
     }
