@@ -7,8 +7,8 @@
 
 use card::check_card;
 use std::alloc::{AllocError, Global};
+use std::io;
 use std::io::Read;
-use std::{io, iter};
 use wire::{run, word};
 
 /// The longest card that a case may have.
@@ -34,10 +34,9 @@ fn base_cards<'a>(heap: Global, input: &mut &'a [u8]) -> Result<Vec<&'a [u8]>, A
 
 /// Lays a base card into the buffer, with 0 past its end.
 fn lay(buffer: &mut [u8], base: &[u8]) {
-    let bytes = base.iter().copied().chain(iter::repeat(0));
-    for (place, byte) in buffer.iter_mut().zip(bytes) {
-        *place = byte;
-    }
+    let len = base.len().min(buffer.len());
+    buffer[..len].copy_from_slice(&base[..len]);
+    buffer[len..].fill(0);
 }
 
 /// Makes the next case in the buffer, and answers its length.

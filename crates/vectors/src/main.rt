@@ -131,33 +131,53 @@ fn run_system(rt: &HostRuntime, line: &mut Line) -> io::Result<()> {
     println!(rt; " left {}", sum_of(lines))
 }
 
-/// A job and the budget.
+/// The budget and the lists of a case, as its line has them.
 #[derive(Drop)]
 struct Case {
-    job: Job,
     budget: usize,
+    g: Vec<i64>,
+    c: Vec<i64>,
+    a: Vec<i64>,
+    lo: Vec<i64>,
+    hi: Vec<i64>,
+    l: Vec<i64>,
+    u: Vec<i64>,
 }
 
-fn read_case(heap: Global, line: &mut Line) -> Result<Option<Case>, AllocError> {
+impl Case {
+    /// The job, which is not handed on by value from here: it lies in places for the largest.
+    fn job(&self) -> Option<Job> {
+        let terms = Terms::new(&self.c, &self.l, &self.u, &self.lo, &self.hi)?;
+        Job::new(terms, &self.g, &self.a)
+    }
+}
+
+fn read_case(heap: Global, line: &mut Line) -> Result<Case, AllocError> {
     let n = line.size();
     let m = line.size();
-    let budget = line.size();
-    let g = line.list(heap, n.saturating_mul(n))?;
-    let c = line.list(heap, n)?;
-    let a = line.list(heap, n.saturating_mul(m))?;
-    let lo = line.list(heap, m)?;
-    let hi = line.list(heap, m)?;
-    let l = line.list(heap, n)?;
-    let u = line.list(heap, n)?;
-    let job = Terms::new(&c, &l, &u, &lo, &hi).and_then(|terms| Job::new(terms, &g, &a));
-    Ok(job.map(|job| Case { job, budget }))
+    Ok(Case {
+        budget: line.size(),
+        g: line.list(heap, n.saturating_mul(n))?,
+        c: line.list(heap, n)?,
+        a: line.list(heap, n.saturating_mul(m))?,
+        lo: line.list(heap, m)?,
+        hi: line.list(heap, m)?,
+        l: line.list(heap, n)?,
+        u: line.list(heap, n)?,
+    })
 }
 
 /// Walks from the point that the rest of the line has.
-fn run_walk(rt: &HostRuntime, heap: Global, case: &Case, start: &[i64]) -> anyhow::Result<()> {
-    let budget = u32::try_from(case.budget).unwrap_or(0);
+fn run_walk(
+    rt: &HostRuntime,
+    heap: Global,
+    job: &Job,
+    budget: usize,
+    start: &[i64],
+) -> anyhow::Result<()> {
+    let budget = u32::try_from(budget).unwrap_or(0);
     let mut point = Vec::from_slice(heap, start)?;
-    match walk(&case.job, point.as_mut_slice(), budget) {
+    match walk(job, point.as_mut_slice(), budget) {
         Ok(walked) => print!(rt; "walk {} {}", walked.moves, walked.end)?,
         Err(_) => print!(rt; "refused")?,
     }
@@ -184,13 +204,13 @@ fn print_offer(rt: &HostRuntime, job: &Job, offer: &Offer) -> io::Result<()> {
     Ok(())
 }
 
-fn run_exchange(rt: &HostRuntime, case: &Case) -> io::Result<()> {
-    print_report(rt, &exchange::run(&case.job, case.budget))?;
-    let mut exchange = Exchange::new(&case.job);
-    for _ in 0..case.budget {
+fn run_exchange(rt: &HostRuntime, job: &Job, budget: usize) -> io::Result<()> {
+    print_report(rt, &exchange::run(job, budget))?;
+    let mut exchange = Exchange::new(job);
+    for _ in 0..budget {
         let step = exchange.step();
         if let Step::Found(offer, _) = step {
-            print_offer(rt, &case.job, &offer)?;
+            print_offer(rt, job, &offer)?;
         }
         if end_after(step).is_some() {
             break;
@@ -223,12 +243,13 @@ fn run_line(rt: &HostRuntime, heap: Global, line: &mut Line) -> anyhow::Result<(
     if kind == Kind::System {
         return Ok(run_system(rt, line)?);
     }
-    let Some(case) = read_case(heap, line)? else {
+    let case = read_case(heap, line)?;
+    let Some(job) = case.job() else {
         return Ok(println!(rt; "no job")?);
     };
     match kind {
-        Kind::Walk => run_walk(rt, heap, &case, line.left),
-        _ => Ok(run_exchange(rt, &case)?),
+        Kind::Walk => run_walk(rt, heap, &job, case.budget, line.left),
+        _ => Ok(run_exchange(rt, &job, case.budget)?),
     }
 }
 
