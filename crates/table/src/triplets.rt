@@ -28,7 +28,8 @@ pub struct Triplets<'a> {
 fn is_index(z: i64, k: usize) -> bool
     ensures { result ≡ is_index z k }
 {
-    usize::try_from(z).is_ok_and(|n| n == k)
+    // Not by try_from: this is asked of each record, and a record that is not for the place has to cost little.
+    z >= 0 && z as usize == k
 }
 
 impl Record {

@@ -244,12 +244,10 @@ fn run_line(rt: &HostRuntime, heap: Global, line: &mut Line) -> anyhow::Result<(
         return Ok(run_system(rt, line)?);
     }
     let case = read_case(heap, line)?;
-    let Some(job) = case.job() else {
-        return Ok(println!(rt; "no job")?);
-    };
-    match kind {
-        Kind::Walk => run_walk(rt, heap, &job, case.budget, line.left),
-        _ => Ok(run_exchange(rt, &job, case.budget)?),
+    match &case.job() {
+        None => Ok(println!(rt; "no job")?),
+        Some(job) if kind == Kind::Walk => run_walk(rt, heap, job, case.budget, line.left),
+        Some(job) => Ok(run_exchange(rt, job, case.budget)?),
     }
 }
 
