@@ -53,6 +53,12 @@ module _ (g a h b : Grid) (x : Numbers) (agree : Agrees (stated h b x) (stated g
   judged_pair_same y e q held r er =
       er ∙ ap (λ (n : Numbers). unless (pair_refusal (stated h b n) q) (above held (floor_of (stated h b n) q))) e ∙ same_pair q held
 
+  pub read_cost_is : (y : Numbers) → y ≡ x → (z : List ℤ) → cost (stated h b y) (places z) ≡ cost (stated g a x) (places z)
+  read_cost_is y e z = ap (λ (n : Numbers). cost (stated h b n) (places z)) e ∙ same_cost (stated h b x) (stated g a x) agree (places z)
+
+  pub read_floor_is : (y : Numbers) → y ≡ x → (q : Pair) → floor_of (stated h b y) q ≡ floor_of (stated g a x) q
+  read_floor_is y e q = ap (λ (n : Numbers). floor_of (stated h b n) q) e ∙ same_floor (stated h b x) (stated g a x) agree (places q.point) (places q.multipliers)
+
 -- the state after a point, by what it comes to beside the held one
 abbrev pub point_after : State → List ℤ → Result (Option ℤ) Refusal → State
 point_after s z (Ok (Some q)) = with_point s (Some z)

@@ -3,7 +3,7 @@ ghost use Rattle.std.specs.Prelude.{◌≡◌, true, length};
 ghost use Rattle.duality.specs.Lists.{places};
 ghost use Rattle.duality.specs.Problem.{cost as cost_of};
 ghost use Rattle.duality.specs.Tests.{many_within};
-ghost use Rattle.terms.specs.Numbers.{ropes_of};
+ghost use Rattle.terms.specs.Numbers.{ropes_of, rows_of};
 ghost use Rattle.job.specs.Numbers.{problem_of};
 ghost use Rattle.job.specs.Rows.{judged};
 ghost use Rattle.exchange.specs.Runs.{offers_of};
@@ -29,13 +29,52 @@ use reading::{curvature, rows};
 use table::Table;
 
 impl<G: Table, A: Table> Plan<G, A> {
-    /// What stands to be bettered.
-    pub(crate) fn bests(&self) -> Bests
+    /// The cost of a point that fits, by the numbers that were read.
+    fn read_cost(&self, job: &Job, z: &[i64]) -> i64
+        requires same { ReadOf (view G.Table.meant A.Table.meant self.now) job.now }
+        requires near { many_within (ropes_of self.now.terms) 32768 z.now ≡ true }
+        ensures { result ≡ cost_of (problem (view G.Table.meant A.Table.meant self.now)) (places z.now) }
+    {
+        let judge = Judge {
+            g: &curvature(job),
+            a: &rows(job),
+            terms: &job.terms,
+        };
+        judge.cost(z)
+    }
+
+    /// The floor of a pair that fits, by the numbers that were read.
+    fn read_floor(&self, job: &Job, pair: Pair) -> i128
+        requires same { ReadOf (view G.Table.meant A.Table.meant self.now) job.now }
+        requires point { many_within (ropes_of self.now.terms) 32768 pair.point.now ≡ true }
+        requires multipliers { many_within (rows_of self.now.terms) 16777216 pair.multipliers.now ≡ true }
+        ensures { result ≡ floor_of (problem (view G.Table.meant A.Table.meant self.now)) (pair_of pair.entry) }
+    {
+        let judge = Judge {
+            g: &curvature(job),
+            a: &rows(job),
+            terms: &job.terms,
+        };
+        judge.floor(pair)
+    }
+
+    /// What stands to be bettered. The numbers that were read tell it, so that no table is asked again.
+    pub(crate) fn bests(&self, job: &Job) -> Bests
+        requires { ReadOf (view G.Table.meant A.Table.meant self.now) job.now }
         ensures { Stands (view G.Table.meant A.Table.meant self.now) result }
     {
         Bests {
-            cost: self.held_cost(),
-            floor: self.held_floor(),
+            cost: match &self.point {
+                Some(z) => Some(self.read_cost(job, z)),
+                None => None,
+            },
+            floor: self.read_floor(
+                job,
+                Pair {
+                    point: &self.pair.point,
+                    multipliers: &self.pair.multipliers,
+                },
+            ),
         }
     }
 

@@ -1,7 +1,9 @@
 //! What an offer comes to beside what is held.
-ghost use Rattle.std.specs.Prelude.{◌≡◌};
+ghost use Rattle.std.specs.Prelude.{◌≡◌, true};
 ghost use Rattle.duality.specs.Lists.{places};
 ghost use Rattle.duality.specs.Problem.{cost as cost_of};
+ghost use Rattle.duality.specs.Tests.{many_within};
+ghost use Rattle.terms.specs.Numbers.{ropes_of, rows_of};
 ghost use Rattle.evaluate.specs.Stated.{problem_of};
 ghost use Rattle.calls.specs.States.{floor_of};
 ghost use Rattle.calls.specs.Refusing.{point_refusal, pair_refusal};
@@ -23,6 +25,23 @@ pub(crate) struct Judge<'a, G, A> {
 }
 
 impl<'a, G: Table, A: Table> Judge<'a, G, A> {
+    /// The cost of a point that fits.
+    pub(crate) fn cost(&self, z: &[i64]) -> i64
+        requires { many_within (ropes_of self.now.terms.now) 32768 z.now ≡ true }
+        ensures { result ≡ cost_of (problem_of (G.Table.meant self.now.g.now) (A.Table.meant self.now.a.now) self.now.terms.now) (places z.now) }
+    {
+        cost(self.g, self.terms, z).unwrap()
+    }
+
+    /// The floor of a pair that fits.
+    pub(crate) fn floor(&self, pair: Pair) -> i128
+        requires point { many_within (ropes_of self.now.terms.now) 32768 pair.point.now ≡ true }
+        requires multipliers { many_within (rows_of self.now.terms.now) 16777216 pair.multipliers.now ≡ true }
+        ensures { result ≡ floor_of (problem_of (G.Table.meant self.now.g.now) (A.Table.meant self.now.a.now) self.now.terms.now) (pair_of pair.entry) }
+    {
+        floor(self.g, self.a, self.terms, pair).unwrap()
+    }
+
     /// The cost of a point, if it is below that of the held one.
     pub(crate) fn better_cost(&self, held: Option<i64>, z: &[i64]) -> Result<Option<i64>, Refusal>
         ensures { result ≡ unless (point_refusal (problem_of (G.Table.meant self.now.g.now) (A.Table.meant self.now.a.now) self.now.terms.now) z.now)

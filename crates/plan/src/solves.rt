@@ -117,7 +117,7 @@ impl<G: Table, A: Table> Plan<G, A> {
         ensures law { LawfulSolve (view G.Table.meant A.Table.meant self.old) budgets.steps budgets.moves result }
     {
         let job = read_job(&self.g, &self.a, &self.terms);
-        let mut bests = self.bests();
+        let mut bests = self.bests(&job);
         let mut point: ArrayVec<i64, MOST_ROPES> = copied(&job.terms.l);
         let at = point.as_mut_slice();
         let exchanged = self.run_exchange(&job, &mut bests, at, budgets.steps);

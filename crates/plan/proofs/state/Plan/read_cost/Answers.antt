@@ -1,0 +1,26 @@
+use Rattle.std.proofs.Common.{ℕ, ap, ◌∙◌, rules}
+use mir.Syntax.{w64}
+use mir.Val.{SFits}
+use Rattle.std.proofs.lemmas.Int.{to_z-of_z}
+use Rattle.duality.specs.Tests.{many_within}
+use Rattle.table.specs.Layers.{flipped}
+use Rattle.job.specs.Numbers.{Numbers as JobNumbers, problem, problem_of}
+use Rattle.reading.specs.Listings.{grid_of}
+use Rattle.reading.proofs.Listings.{shown_agrees}
+use Rattle.calls.specs.States.{State}
+use Rattle.plan.specs.View.{view}
+use Rattle.plan.proofs.Offering.{read_cost_is}
+use Rattle.plan.proofs.state.Plan.read_cost.Goals as goal
+
+pub cost-requires : goal.cost-requires
+cost-requires g c = ap (λ (x : JobNumbers). many_within x.terms.ropes 32768 c.args.z.now) c.requires.same ∙ c.requires.near
+
+pub returns : goal.returns
+returns g c =
+    let s : State = view g.G.Table.meant g.A.Table.meant c.args.self.now in
+    let h = grid_of c.curvature.result in
+    let b = flipped (grid_of c.rows.result.below) in
+    let fits : SFits w64 c.cost.result = search rules in
+    to_z-of_z w64 _ fits ∙ c.cost.ensures
+    ∙ read_cost_is s.g s.a h b s.numbers (shown_agrees s.g s.a h b s.numbers (problem_of c.args.job.now) (ap problem c.requires.same) c.curvature.ensures.law c.rows.ensures.law)
+    _ (ap (λ (x : JobNumbers). x.terms) c.requires.same) c.args.z.now
