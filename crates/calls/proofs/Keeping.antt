@@ -16,7 +16,8 @@ use Rattle.calls.specs.Lawful.{LawfulPoint, LawfulProof}
 use Rattle.calls.specs.Offers.{took_all, Among}
 use Rattle.calls.specs.Histories.{Call, offer, amend, solve, show, offers, after, reached, amended_by, in_force, Leaves, Offered}
 use Rattle.calls.specs.Honesty.{Held, problem_after, HoldsLawfully}
-use Rattle.calls.proofs.Upholding.{Fair, Upheld, upheld_for}
+use Rattle.calls.specs.Fairness.{Fair}
+use Rattle.calls.proofs.Upholding.{Upheld, upheld_for}
 use Rattle.calls.proofs.Taking.{offers_upheld, offers_same}
 use Rattle.calls.proofs.Amending.{ropes_stay, amend_upheld, amend_same}
 

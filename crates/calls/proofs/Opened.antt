@@ -5,7 +5,7 @@ use Rattle.table.specs.Grid.{Grid, matrix_of}
 use Rattle.opening.specs.Opening.{Numbers, open_fault}
 use Rattle.opening.proofs.Fitting.{tells_fit}
 use Rattle.calls.specs.Opened.{opened, Sound}
-use Rattle.calls.proofs.Upholding.{Fair}
+use Rattle.calls.specs.Fairness.{Fair}
 
 pub opened_sound : (g a : Grid) (x : Numbers) → open_fault g a x ≡ None → Sound g a x (opened g a x)
 opened_sound g a x e =

@@ -6,7 +6,8 @@ use Rattle.calls.specs.Steps.{show_answer, shown_in}
 use Rattle.calls.specs.Opened.{opened}
 use Rattle.calls.specs.Histories.{Call, offer, amend, solve, show, after, reached}
 use Rattle.calls.specs.Runs.{Reply, showed, reply, replies, after_all, first_calls, nth, HonestRun, RunLaw, LeavesAfter, AsOne}
-use Rattle.calls.proofs.Upholding.{Fair}
+use Rattle.calls.specs.Fairness.{Fair, FairRunLaw, LeavesFair}
+use Rattle.calls.proofs.Keeping.{reached_fair}
 use Rattle.calls.proofs.Opened.{opened_fair}
 use Rattle.calls.proofs.Showing.{show_honest}
 
@@ -57,6 +58,14 @@ leaves_after t calls g a x past s =
       opens = s.opens;
       stands = sym (after_all_lem (opened g a x) past calls) ∙ ap (λ (u : State). after_all u calls) s.stands;
     }
+
+-- from a fair plan, without a history
+
+pub fair_run_law : (s : State) (calls : List Call) → FairRunLaw s calls (replies s calls)
+fair_run_law s calls = run_honest s [] calls
+
+pub leaves_fair : (s : State) (calls : List Call) → LeavesFair s (after_all s calls)
+leaves_fair s calls fair = subst Fair (sym (run_reached s calls)) (reached_fair s (first_calls calls (length calls) []) fair)
 
 -- two runs as one
 

@@ -14,10 +14,11 @@ use Rattle.calls.specs.Steps.{unless, found_by, shown, show_answer, point_shown,
 use Rattle.calls.specs.Lawful.{LawfulPoint, LawfulProof}
 use Rattle.calls.specs.Offers.{Offer}
 use Rattle.calls.specs.Opened.{opened}
-use Rattle.calls.specs.Histories.{Call, reached, Offered}
-use Rattle.calls.specs.Honesty.{Meets, ShowsPoint, GapHolds, SaysNone, ShowsAtMost, Honest, Held, problem_after, ShowLaw}
+use Rattle.calls.specs.Histories.{Offered}
+use Rattle.calls.specs.Honesty.{Meets, ShowsPoint, GapHolds, SaysNone, ShowsAtMost, Honest, Held, ShowLaw}
+use Rattle.calls.specs.Fairness.{Fair, FairShowLaw}
 use Rattle.calls.proofs.Opened.{opened_fair}
-use Rattle.calls.proofs.Upholding.{Fair, HoldsAtMost, Upheld}
+use Rattle.calls.proofs.Upholding.{HoldsAtMost, Upheld}
 use Rattle.calls.proofs.Keeping.{Keeps, keeps, problem_is, reached_fair}
 
 -- what is found, by the proof and the point that are held
@@ -79,8 +80,7 @@ answered true e v x d = (refl, (cc))
 answered false e v x d = let z : ◌≡◌ {A = ℕ} 0 1 = cc in absurd (omega arith)
 
 -- from any fair start
-pub show_honest : (t : State) (out : List ℤ) (r : Result Shown Refusal) (z : List ℤ) → r ≡ show_answer t (length out) → z ≡ shown_in t out
-    → (s : State) (past : List Call) → Fair s → reached s past ≡ t → (x : Shown) → r ≡ Ok x → Honest (problem_after s past) (Offered s past) x z
+pub show_honest : (t : State) (out : List ℤ) (r : Result Shown Refusal) (z : List ℤ) → r ≡ show_answer t (length out) → z ≡ shown_in t out → FairShowLaw t r z
 show_honest t out r z er ez s past fair et x ex =
     let fits = answered (eqb (length out) t.numbers.ropes) (OfferLength t.numbers.ropes) (shown t) x (sym er ∙ ex) in
     let k = subst (Keeps s past) et (keeps s past fair) in

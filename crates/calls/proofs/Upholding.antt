@@ -1,19 +1,11 @@
 -- What a plan upholds: it holds only what is lawful, and nothing that was offered since the last amendment is better.
 use Rattle.std.proofs.Common.{◌≡◌, true, List, ℤ, ◌≤ℤ◌, is_some, Some, None, Option, refl}
-use Rattle.duality.specs.Convex.{Symmetric, Convex}
 use Rattle.duality.specs.Lists.{places}
 use Rattle.duality.specs.Problem.{Problem, cost}
 use Rattle.calls.specs.States.{State, Pair, problem, floor_of}
 use Rattle.calls.specs.Lawful.{LawfulPoint, LawfulPair, LawfulProof}
 use Rattle.calls.specs.Offers.{Offer, point, pair, proof}
 use Rattle.calls.specs.Honesty.{Held}
-
--- what is held is lawful, and the cost is convex: whatever calls are made on such a plan, what it shows is honest
-pub record Fair (s : State) : Type 0 where
-  pub point_lawful : Held s.point (LawfulPoint (problem s))
-  pub proof_lawful : Held s.proof (LawfulProof (problem s))
-  pub symmetric : Symmetric (problem s).ropes (problem s).G
-  pub convex : Convex (problem s).ropes (problem s).G
 
 -- a point is held that costs at most v
 abbrev pub HoldsAtMost : Problem → Option (List ℤ) → ℤ → Type 0

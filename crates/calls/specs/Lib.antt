@@ -8,4 +8,5 @@ pub mod Solving
 pub mod Histories
 pub mod Honesty
 pub mod Runs
+pub mod Fairness
 pub mod Verdicts

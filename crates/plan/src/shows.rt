@@ -2,6 +2,7 @@
 ghost use Rattle.std.specs.Prelude.{◌≡◌, length};
 ghost use Rattle.calls.specs.Steps.{show_answer, shown_in};
 ghost use Rattle.calls.specs.Honesty.{ShowLaw};
+ghost use Rattle.calls.specs.Fairness.{FairShowLaw};
 ghost use Rattle.plan.specs.View.{view};
 
 use crate::evaluates::gap_above;
@@ -16,10 +17,12 @@ impl<G: Table, A: Table> Plan<G, A> {
     ///
     /// A point that is shown is written into the list, which must have a number for each rope; otherwise, and where it is refused, the list stays.
     /// Whatever opening and whatever calls led here, what is shown is true of the numbers in force, and no lawful offer was lost.
+    /// So it is whatever calls led here from a fair start, as every newly opened plan is.
     pub fn show(&self, out: &mut [i64]) -> Result<Shown, Refusal>
         ensures answer { result ≡ show_answer (view G.Table.meant A.Table.meant self.now) (length out.old) }
         ensures wrote { out.new ≡ shown_in (view G.Table.meant A.Table.meant self.now) out.old }
         ensures law { ShowLaw (view G.Table.meant A.Table.meant self.now) result out.new }
+        ensures fair_law { FairShowLaw (view G.Table.meant A.Table.meant self.now) result out.new }
     {
         check_length(self.terms.ropes(), out.len())?;
         let floor = self.held_floor();

@@ -1,6 +1,7 @@
 //! A plan as a sheet of text.
 ghost use Rattle.std.specs.Prelude.{◌≡◌, ◌≤◌, length, IfOk, Ok};
 ghost use Rattle.calls.specs.Honesty.{ShowLaw};
+ghost use Rattle.calls.specs.Fairness.{FairShowLaw};
 ghost use Rattle.calls.specs.Steps.{shown};
 ghost use Rattle.plan.specs.View.{view};
 ghost use Rattle.print.specs.Printing.{point_of, plan_text, print_answer, print_after};
@@ -15,6 +16,7 @@ use terms::MOST_ROPES;
 /// Refuses a list of fewer than 320 bytes, which stays as it stood.
 ///
 /// What is printed is what `show` answers: whatever opening and whatever calls led here, it is true of the numbers in force, and no lawful offer was lost.
+/// So it is whatever calls led here from a fair start.
 pub fn print_plan<G: Table, A: Table>(
     plan: &Plan<G, A>,
     report: &Report,
@@ -24,6 +26,9 @@ pub fn print_plan<G: Table, A: Table>(
     ensures after { out.new ≡ print_after (plan_text report.now (view G.Table.meant A.Table.meant plan.now)) out.old }
     ensures fits { IfOk result (λ n. n ≤ length out.old) }
     ensures law { ShowLaw (view G.Table.meant A.Table.meant plan.now)
+        (Ok (shown (view G.Table.meant A.Table.meant plan.now)))
+        (point_of (view G.Table.meant A.Table.meant plan.now)) }
+    ensures fair_law { FairShowLaw (view G.Table.meant A.Table.meant plan.now)
         (Ok (shown (view G.Table.meant A.Table.meant plan.now)))
         (point_of (view G.Table.meant A.Table.meant plan.now)) }
 {

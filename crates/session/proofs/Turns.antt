@@ -9,12 +9,13 @@ use Rattle.calls.specs.Steps.{unless, if_allowed}
 use Rattle.calls.specs.Histories as calls
 use Rattle.calls.specs.Histories.{after}
 use Rattle.calls.specs.Runs.{Reply, reply, replies, after_all, RunLaw, LeavesAfter}
+use Rattle.calls.specs.Fairness.{FairRunLaw, LeavesFair}
 use Rattle.session.specs.declared.asks.Asked.{Asked}
 use Rattle.session.specs.declared.asks.Call.{Call}
 use Rattle.session.specs.declared.asks.Call.TheVariants.{Point, Floor, Proof, Amend, Solve, Show}
 use Rattle.session.specs.Said.{call_of, reply_of, asked_of, told}
 use Rattle.session.specs.Answering.{written, answer_to, answered, HonestSession}
-use Rattle.calls.proofs.Running.{run_law, leaves_after}
+use Rattle.calls.proofs.Running.{run_law, leaves_after, fair_run_law, leaves_fair}
 
 -- the first k slots are filled as the run fills them, and the rest of the run leads to its end
 pub record Halfway (s : State) (asked : List Asked) (k : ℕ) (now : List Asked) (t : State) : Type 0 where
@@ -44,6 +45,12 @@ run_honest s ms rs e = subst (RunLaw s ms) (sym e) (run_law s ms)
 pub run_left : (s t : State) (ms : List calls.Call) → t ≡ after_all s ms → LeavesAfter s ms t
 run_left s t ms e = subst (LeavesAfter s ms) (sym e) (leaves_after s ms)
 
+pub run_fair : (s t : State) (ms : List calls.Call) → t ≡ after_all s ms → LeavesFair s t
+run_fair s t ms e = subst (LeavesFair s) (sym e) (leaves_fair s ms)
+
+pub run_fairly : (s : State) (ms : List calls.Call) (rs : List Reply) → rs ≡ replies s ms → FairRunLaw s ms rs
+run_fairly s ms rs e = subst (FairRunLaw s ms) (sym e) (fair_run_law s ms)
+
 -- what opening answered tells whether there was a fault
 
 pub opened_ok : (o : Option Refusal) (s t : State) → ◌≡◌ {A = Result State Refusal} (Ok t) (unless o s) → (o ≡ None) × (t ≡ s)
@@ -62,6 +69,11 @@ refused_answer o f (Err h) e d = ap Err d ∙ ap (λ (q : Option Refusal). unles
 
 pub refused_slots : (o : Option Refusal) (f : Refusal) (made asked : List Asked) → o ≡ Some f → asked ≡ if_allowed o made asked
 refused_slots o f made asked e = ap (λ (q : Option Refusal). if_allowed q made asked) (sym e)
+
+-- the slots of a session that was opened
+pub made_slots : (o : Option Refusal) (s t : State) (now asked : List Asked) → o ≡ None → t ≡ s → now ≡ answered t asked → now ≡ if_allowed o (answered s asked) asked
+made_slots o s t now asked eo es e =
+    e ∙ ap (λ (u : State). answered u asked) es ∙ ap (λ (q : Option Refusal). if_allowed q (answered s asked) asked) (sym eo)
 
 -- from the plan just opened
 pub session_honest : (g a : Grid) (x : Numbers) (ms : List calls.Call) (rs : List Reply) (s : State) → open_fault g a x ≡ None → s ≡ opened g a x

@@ -1,7 +1,7 @@
 use Rattle.std.proofs.Common.{◌≡◌, replicate, pos, Ok, refl, ap, ◌∙◌, rules}
 use Rattle.calls.specs.States.{State}
 use Rattle.calls.specs.Steps.{shown, shown_in}
-use Rattle.calls.proofs.Showing.{show_law}
+use Rattle.calls.proofs.Showing.{show_law, show_honest}
 use Rattle.lines.specs.Texts.{sheet_text}
 use Rattle.plan.specs.View.{view}
 use Rattle.print.specs.Printing.{point_of, plan_text}
@@ -31,4 +31,5 @@ returns g c =
       after = after;
       fits = printed_fits out c.write_sheet.new.out (plan_text r s) _ answer after c.write_sheet.auto.out;
       law = show_law s (replicate n (pos 0)) (Ok (shown s)) (point_of s) (shows_zeros s) refl;
+      fair_law = show_honest s (replicate n (pos 0)) (Ok (shown s)) (point_of s) (shows_zeros s) refl;
     }

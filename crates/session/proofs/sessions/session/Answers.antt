@@ -4,7 +4,7 @@ use Rattle.calls.specs.Opened.{opened}
 use Rattle.plan.specs.View.{view}
 use Rattle.session.specs.Said.{asked_of, told}
 use Rattle.session.specs.Answering.{answered}
-use Rattle.session.proofs.Turns.{opened_ok, opened_err, refused_answer, refused_slots, session_honest}
+use Rattle.session.proofs.Turns.{opened_ok, opened_err, refused_answer, refused_slots, made_slots, session_honest}
 use Rattle.session.proofs.sessions.session.Goals as goal
 
 pub returns-clause-law : goal.returns-clause-law
@@ -15,6 +15,15 @@ returns-clause-law g c =
     let s = view g.G.Table.meant g.A.Table.meant c.in_ok-plan.plan in
     let opens = opened_ok (open_fault gm am x) (opened gm am x) s c.in_ok-plan.ensures.answer in
     session_honest gm am x (map asked_of c.args.asked.now) (told c.run.new.asked) s opens.0 opens.1 c.run.ensures.law
+
+pub returns-clause-slots : goal.returns-clause-slots
+returns-clause-slots g c =
+    let gm = g.G.Table.meant c.args.g in
+    let am = g.A.Table.meant c.args.a in
+    let x = numbers_of c.args.lists.now in
+    let s = view g.G.Table.meant g.A.Table.meant c.in_ok-plan.plan in
+    let opens = opened_ok (open_fault gm am x) (opened gm am x) s c.in_ok-plan.ensures.answer in
+    made_slots (open_fault gm am x) (opened gm am x) s c.run.new.asked c.args.asked.now opens.0 opens.1 c.run.ensures.answers
 
 pub returns-in_err-plan-clause-answer : goal.returns-in_err-plan-clause-answer
 returns-in_err-plan-clause-answer g c =
