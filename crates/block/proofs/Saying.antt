@@ -6,7 +6,8 @@ use Rattle.block.specs.declared.fault.Fault.{Fault}
 use Rattle.block.specs.Bytes.{le16}
 use Rattle.block.specs.Blocks.{check_of}
 use Rattle.block.specs.Checks.{Verdict, and_then, first_set, spare_in, no_spare, sum_check, name_check, spare_check, block_check}
-use Rattle.block.specs.Laws.{Summed, Named, IsSpare, Clean, FirstSet, Says, Rightly}
+use Rattle.block.specs.Laws.{Summed, Named, IsSpare, Clean, FirstSet, FirstSpare, Says, Rightly}
+use Rattle.block.proofs.FirstSet.{spare_ok}
 
 -- j is the first byte of the list that is set, where the list's first byte is byte k
 record First (k j : ℕ) (xs : List ℕ) : Type 0 where
@@ -124,6 +125,21 @@ module _ (block : List ℕ) (number used : ℕ) (long : length block ≡ 512) wh
     by_test : (t : Bool) → t ≡ eqb (get_or block 1 0) 0 → cond t (first_set from tail) (Some 1) ≡ Some k → FirstSet block used k
     by_test true p q = late (eqb-true (get_or block 1 0) 0 (sym p)) (some_is from k tail q)
     by_test false p q = early (eqb-false (get_or block 1 0) 0 (sym p)) (cc)
+
+  refused_some : (o : Option ℕ) (k : ℕ) → no_spare number o ≡ Err (Fault.Spare number k) → o ≡ Some k
+  refused_some None k e = let z : ◌≡◌ {A = ℕ} 0 1 = cc in absurd (omega arith)
+  refused_some (Some j) k e = let same : j ≡ k = cc in ap Some same
+
+  -- the spare byte that is named is the first that is set, and where none is named, all are 0
+  pub spare_law : FirstSpare block number used (spare_check block number used)
+  spare_law =
+      let at : (k : ℕ) → spare_check block number used ≡ Err (Fault.Spare number k) → FirstSet block used k = λ k e. spare_earliest k (refused_some (spare_in block used) k e) in
+      record {
+        clean = λ e. spare_clean (spare_ok number (spare_in block used) e);
+        spare = λ k e. (at k e).spare;
+        set = λ k e. (at k e).set;
+        first = λ k e. (at k e).first;
+      }
 
   -- no spare byte is found where all are 0
   none_of : (o : Option ℕ) → spare_in block used ≡ o → Clean block used → spare_in block used ≡ None

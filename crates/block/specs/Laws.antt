@@ -27,6 +27,13 @@ pub record FirstSet (block : List ℕ) (used k : ℕ) : Type 0 where
   pub set : slice_index block k ≢ 0
   pub first : (i : ℕ) → i < k → IsSpare used i → slice_index block i ≡ 0
 
+-- a block passes with all spare bytes 0, and is refused at the first of them that is not
+pub record FirstSpare (block : List ℕ) (number used : ℕ) (verdict : Verdict) : Type 0 where
+  pub clean : verdict ≡ Ok tt → (k : ℕ) → IsSpare used k → slice_index block k ≡ 0
+  pub spare : (k : ℕ) → verdict ≡ Err (Spare number k) → IsSpare used k
+  pub set : (k : ℕ) → verdict ≡ Err (Spare number k) → slice_index block k ≢ 0
+  pub first : (k : ℕ) → verdict ≡ Err (Spare number k) → (i : ℕ) → i < k → IsSpare used i → slice_index block i ≡ 0
+
 -- what each answer says of a block that is to hold `used` numbers under this letter and number
 abbrev pub Says : List ℕ → ℕ → ℕ → ℕ → Verdict → Type 0
 Says block letter number used (Ok u) = Summed block × Named block letter number × Clean block used

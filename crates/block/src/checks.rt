@@ -2,7 +2,7 @@ ghost use Rattle.std.specs.Prelude.{◌≡◌, length, position};
 ghost use Rattle.block.specs.Blocks.{check_of};
 ghost use Rattle.block.specs.Checks.{is_set, spare_in, sum_check, name_check, spare_check, block_check};
 ghost use Rattle.block.specs.Kinds.{letter_of};
-ghost use Rattle.block.specs.Laws.{Exact, Rightly, Says};
+ghost use Rattle.block.specs.Laws.{Exact, FirstSpare, Rightly, Says};
 
 use crate::block::Block;
 use crate::fault::Fault;
@@ -72,7 +72,8 @@ impl<'a> Block<'a> {
 
     /// Whether the block's spare bytes are 0 when `used` of its numbers are in use; else the first that is not.
     pub fn check_spare(&self, number: u16, used: u8) -> Result<(), Fault>
-        ensures { result ≡ spare_check self.now.bytes.now number used }
+        ensures value { result ≡ spare_check self.now.bytes.now number used }
+        ensures first { FirstSpare self.now.bytes.now number used result }
     {
         match self.spare_set(used) {
             Some(byte) => Err(Fault::Spare {
