@@ -6,6 +6,7 @@ pub mod Readings
 pub mod Sets
 pub mod Searches
 pub mod Meanings
+pub mod Following
 pub mod Smallest
 pub mod Stepping
 pub mod Running

@@ -101,14 +101,14 @@ module _ (P : Problem) (ms : List Member) (z : List ℤ) where
   limit_is v = refl
 
   -- what the search finds: nothing outside, or what is first and furthest
-  record Worst (b : Breach) : Type 0 where
+  pub record Worst (b : Breach) : Type 0 where
     pub free : Free P ms b.member.limit
     pub above : pos 0 <ℤ b.ticks
     pub broken : Breaks P z b.member
     pub furthest : (v : Limit) → Free P ms v → ticks P z v ≤ℤ ticks P z b.member.limit
     pub first : (v : Limit) → Free P ms v → Before v b.member.limit → ticks P z v <ℤ ticks P z b.member.limit
 
-  abbrev Told : Breach → Type 0
+  abbrev pub Told : Breach → Type 0
   Told b = ((b.ticks ≡ pos 0) × MeetsFree P ms z) ⊎ Worst b
 
   -- of limit v, the first and furthest, by its ticks
@@ -162,7 +162,7 @@ module _ (P : Problem) (ms : List Member) (z : List ℤ) where
       first g (Row i) o l = let h = start g i o.0 o.1 in let a = s.above in omega (arith, ints, h, a)
       first g (Bound j) o l = let h = s.first j l o.1 in let t = ticks_are (Bound j) in omega (arith, ints, h, t)
 
-  worst_told : Told (worst P ms z)
+  pub worst_told : Told (worst P ms z)
   unfolding worst
   worst_told =
       told (worst_row P ms z) _ (upto_found depth (broken Row) (Apart Row) (λ b i. worse P ms z b (Row i)) (turn Row) unbroken P.rows)
@@ -207,10 +207,10 @@ module _ (ms : List Member) (ys : List ℤ) where
       at true e = let l = ltb-true _ _ e in inl (refl, tt, omega (arith, ints, l))
       at false e = let l = ltb-false _ _ e in inr (refl, λ _. omega (arith, ints, l))
 
-  abbrev MostTold : Most → Type 0
+  abbrev pub MostTold : Most → Type 0
   MostTold b = ((b.size ≡ 0) × ((k : ℕ) → WrongAt ms ys k → ⊥)) ⊎ ((0 < b.size) × Leaves ms ys b.place)
 
-  most_told : MostTold (most_wrong ms ys)
+  pub most_told : MostTold (most_wrong ms ys)
   unfolding most_wrong
   most_told = told (most_wrong ms ys) (upto_found size candidate Any (more_wrong ms ys) wrong_turn unwronged (length ms))
     where

@@ -11,7 +11,8 @@ use Rattle.exchange.specs.declared.members.Member.{Member}
 use Rattle.exchange.specs.declared.members.Offer.{Offer}
 use Rattle.exchange.specs.declared.members.Step.TheVariants.{Found}
 use Rattle.exchange.proofs.Offering.{offered_inside}
-use Rattle.exchange.proofs.Meanings.{chosen_means, means_follows, job_ordered}
+use Rattle.exchange.proofs.Meanings.{job_ordered}
+use Rattle.exchange.proofs.Following.{chosen_follows}
 use Rattle.exchange.proofs.Stepping.{Pair, system_solved, law_kept, none_from, some_from, array_front, front_long, front_inside, step_stuck, step_found, step_lawful}
 use Rattle.exchange.proofs.exchanges.Exchange.step.Goals as goal
 
@@ -68,8 +69,7 @@ follow-requires c =
     let A : Choice → Type 0 = Follows P.ropes P.rows vs in
     let B : List Member → Type 0 = λ x. Follows P.ropes P.rows x ch in
     let d = c.deref.ensures.0 in
-    subst B d (subst A (sym c.reading-choice.ensures.choice) (means_follows P vs (pulls_of P us) (pressures_of P us) _
-    (chosen_means P vs (pulls_of P us) (pressures_of P us) (omega (arith, e.few, ap length d)))))
+    subst B d (subst A (sym c.reading-choice.ensures.choice) (chosen_follows P vs (pulls_of P us) (pressures_of P us)))
 
 pub returns : goal.returns
 returns c =
