@@ -1,10 +1,10 @@
 -- Problems that agree have the same feasible points, at the same cost, and the same floors.
 use Rattle.std.proofs.Common.{◌≡◌, ℕ, ◌<◌, ℤ, pos, ◌*ℤ◌, ◌+ℤ◌, ◌-ℤ◌, sym, ap, ◌∙◌, arith}
-use Rattle.duality.specs.Floor.{furthest, residual, slack, floor}
+use Rattle.duality.specs.Floor.{furthest, residual, slack}
 use Rattle.duality.specs.Problem.{Problem, Feasible, cost, row_at, slope}
 use Rattle.duality.specs.Sums.{Vector, ∑, dot, row, quad, column}
 use Rattle.duality.proofs.Sums.{∑-cong}
-use Rattle.reading.specs.Plain.{Agrees, SamePoints}
+use Rattle.reading.specs.Plain.{Agrees, SamePoints, SameFloors}
 
 module _ (P Q : Problem) (h : Agrees P Q) where
   pub same_row : (z : Vector) (i : ℕ) → i < Q.rows → row_at P z i ≡ row_at Q z i
@@ -78,5 +78,5 @@ module _ (P Q : Problem) (h : Agrees P Q) where
       ∙ ap (λ (s : ℤ). s +ℤ ∑ Q.ropes (λ j. furthest (residual P p y j) (p j) (P.l j) (P.u j))) (∑-cong Q.rows _ _ (same_row_slack p y))
       ∙ ap (λ (s : ℤ). ∑ Q.rows (λ i. furthest (y i) (row_at Q p i) (Q.lo i) (Q.hi i)) +ℤ s) (∑-cong Q.ropes _ _ (same_rope_slack p y))
 
-  pub same_floor : (p y : Vector) → floor P p y ≡ floor Q p y
+  pub same_floor : SameFloors P Q
   same_floor p y = rw (same_cost p, same_slack p y)

@@ -2,6 +2,7 @@
 use Rattle.std.specs.Prelude.{◌≡◌, ℕ, ◌*◌, ◌<◌, List, map, length, ℤ}
 use Rattle.std.specs.List.{range_with_len, flat_map}
 use Rattle.duality.specs.Lists.{by_rows}
+use Rattle.duality.specs.Floor.{floor}
 use Rattle.duality.specs.Problem.{Problem, Feasible, cost}
 use Rattle.duality.specs.Sums.{Vector, Matrix}
 use Rattle.table.specs.Grid.{Grid, matrix_of}
@@ -36,3 +37,7 @@ pub record Agrees (P Q : Problem) : Type 0 where
 -- Law: the same points are feasible, at the same cost.
 abbrev pub SamePoints : Problem → Problem → Type 0
 SamePoints P Q = (z : Vector) → (cost P z ≡ cost Q z) × (Feasible P z → Feasible Q z) × (Feasible Q z → Feasible P z)
+
+-- Law: each pair has the same floor.
+abbrev pub SameFloors : Problem → Problem → Type 0
+SameFloors P Q = (p y : Vector) → floor P p y ≡ floor Q p y

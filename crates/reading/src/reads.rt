@@ -7,7 +7,7 @@ ghost use Rattle.table.specs.Grid.{matrix_of};
 ghost use Rattle.terms.specs.Numbers.{numbers_of as terms_of};
 ghost use Rattle.evaluate.specs.Stated.{problem_of as stated};
 ghost use Rattle.job.specs.Numbers.{numbers_of, problem_of};
-ghost use Rattle.reading.specs.Plain.{listed, plain, Agrees, RowByRow, SamePoints};
+ghost use Rattle.reading.specs.Plain.{listed, plain, Agrees, RowByRow, SamePoints, SameFloors};
 
 use arrayvec::ArrayVec;
 use job::Job;
@@ -76,6 +76,7 @@ pub fn read_job<G: Table, A: Table>(g: &G, a: &A, terms: &Terms) -> Job
     ensures value { numbers_of result ≡ plain (G.Table.meant g.now) (A.Table.meant a.now) (terms_of terms.now) }
     ensures law { Agrees (problem_of result) (stated (G.Table.meant g.now) (A.Table.meant a.now) terms.now) }
     ensures points { SamePoints (problem_of result) (stated (G.Table.meant g.now) (A.Table.meant a.now) terms.now) }
+    ensures floors { SameFloors (problem_of result) (stated (G.Table.meant g.now) (A.Table.meant a.now) terms.now) }
 {
     let ropes = terms.ropes();
     Job {

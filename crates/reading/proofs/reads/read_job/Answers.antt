@@ -2,7 +2,7 @@ use Rattle.std.proofs.Common.{sym, ap, ◌∙◌}
 use Rattle.table.specs.Layers.{flipped}
 use Rattle.table.specs.Grid.{matrix_of}
 use Rattle.terms.specs.Numbers.{Numbers as Terms, numbers_of as terms_of}
-use Rattle.reading.proofs.Agreeing.{same_points}
+use Rattle.reading.proofs.Agreeing.{same_points, same_floor}
 use Rattle.reading.proofs.Stated.{read_is, kept, read_plain, job_agrees}
 use Rattle.reading.proofs.reads.read_job.Goals as goal
 
@@ -24,4 +24,4 @@ returns g c =
     let value = read_plain gm am (terms_of c.args.terms.now) (terms_of c.copy_of.result) _ _ _ _ _ c.ropes-ropes.ensures c.rows.ensures
     (ap (λ r. flipped (g.A.Table.meant r.now)) c.over.ensures.holds) c.copy_of.ensures gs ws in
     let law = job_agrees gm am c.args.terms.now _ value in
-    record { value = value; law = law; points = same_points _ _ law }
+    record { value = value; law = law; points = same_points _ _ law; floors = same_floor _ _ law }
