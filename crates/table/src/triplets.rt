@@ -55,10 +55,12 @@ impl Record {
     fn put_into(&self, row: &mut [i64], i: usize)
         ensures { Written row.old self.now i row.new }
     {
-        let Ok(j) = usize::try_from(self.column) else {
+        // The row first, since most records are for another one.
+        if !is_index(self.row, i) || self.column < 0 {
             return;
-        };
-        if is_index(self.row, i) && j < row.len() {
+        }
+        let j = self.column as usize;
+        if j < row.len() {
             row[j] = self.number;
         }
     }

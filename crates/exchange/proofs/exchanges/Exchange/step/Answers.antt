@@ -11,7 +11,7 @@ use Rattle.exchange.specs.declared.members.Member.{Member}
 use Rattle.exchange.specs.declared.members.Offer.{Offer}
 use Rattle.exchange.specs.declared.members.Step.TheVariants.{Found}
 use Rattle.exchange.proofs.Offering.{offered_inside}
-use Rattle.exchange.proofs.Meanings.{job_ordered}
+use Rattle.exchange.proofs.Meanings.{chosen_means, job_ordered}
 use Rattle.exchange.proofs.Following.{chosen_follows}
 use Rattle.exchange.proofs.Stepping.{Pair, system_solved, law_kept, none_from, some_from, array_front, front_long, front_inside, step_stuck, step_found, step_lawful}
 use Rattle.exchange.proofs.exchanges.Exchange.step.Goals as goal
