@@ -52,7 +52,7 @@ loop-moves-preserved c =
       same = stays ∙ c.loop-moves.invariant.same;
       inside = subst (λ (i : Job). InBounds (problem_of i) c.search.new.z) (sym stays) inside;
       tracks = subst (λ (i : Job). Tracks i c.search.new.z c.shift.new.self) (sym stays) tracks;
-      rest = walk_turn (problem_of c.args.job.now) c.args.budget c.loop-moves.moves c.loop-moves.z c.search.new.z c.in-Some.m _ c.loop-moves-test.true
+      rest = walk_turn (problem_of c.args.job.now) c.args.budget c.loop-moves.moves c.loop-moves.z c.search.new.z c.in-Some.m _ (omega arith)
           (c.in-Some.ensures.value ∙ ap (λ (i : Job). first_move (problem_of i) c.loop-moves.z) c.loop-moves.invariant.same) y c.loop-moves.invariant.rest;
     }
 
@@ -68,4 +68,4 @@ returns-in-Some-search c =
     let all : c.args.budget ≡ c.loop-moves.moves = omega arith in
     let e = c.in-Some-search.ensures.value ∙ ap (λ (j : Job). first_move (problem_of j) c.loop-moves.z) c.loop-moves.invariant.same in
     ends_spent (problem_of c.args.job.now) c.args.budget c.loop-moves.moves c.args.budget c.loop-moves.z c.search-2.new.z c.in-Some-search.field-0 _ all e
-    c.in-Some-search.ensures.point c.loop-moves-test.false c.loop-moves.invariant.rest
+    c.in-Some-search.ensures.point (omega arith) c.loop-moves.invariant.rest
