@@ -1,4 +1,4 @@
-//! A script of calls on a small job, made one by one with `run` of `session`: over tables of records, over a card, and over layers that come to the same numbers.
+//! A script of calls on a small job: as one `session` over tables of records, and one by one with `run` over a card and over layers that come to the same numbers.
 //! The stored output was written by hand from the rules.
 #![tactic(auto)]
 
@@ -6,14 +6,18 @@ use calls::{Amendment, Dropped, Found, Report, Shown};
 use card::CardTable;
 use opening::Refusal;
 use plan::Plan;
-use session::{Answer, Asked, Call, Pair, run};
+use session::{Answer, Asked, Call, Pair, run, session};
 use sheet::write;
 use small_job::{CURVATURE, LISTS, ROW};
+use std::alloc::{AllocError, Global};
 use std::{io, slice};
 use table::{Flip, Record, Sum, Table, Triplets};
 
 /// How many bytes the card of J has.
 const BYTES: usize = 3584;
+
+/// How many calls the script makes.
+const CALLS: usize = 20;
 
 fn print_refusal(rt: &HostRuntime, refusal: &Refusal) -> io::Result<()> {
     println!(rt; "{}", refusal.notice())
@@ -86,79 +90,81 @@ fn solve<'a>(steps: u64, moves: u64) -> Call<'a> {
     Call::Solve { steps, moves }
 }
 
-/// Makes a call on a plan, and prints its answer.
-fn make<G: Table, A: Table>(rt: &HostRuntime, plan: &mut Plan<G, A>, call: Call) -> io::Result<()> {
-    let mut slot = Asked::new(call);
-    run(plan, slice::from_mut(&mut slot));
-    print_slot(rt, &slot)
+/// The call at a place of the script, and a show at any other place. A show has a list of two numbers as it wants, and one has a list of three.
+fn call_at<'a>(place: usize, list: &'a mut [i64; 3]) -> Call<'a> {
+    match place {
+        1 => Call::Point(&[1, 2]),
+        3 => Call::Point(&[2, 2]),
+        4 => Call::Floor(Pair {
+            point: &[1, 2],
+            multipliers: &[-512],
+        }),
+        6 => limits(0, 2),
+        8 => limits(20, 30),
+        9 | 11 => Call::Proof(&[1]),
+        10 => limits(21, 30),
+        13 => Call::Point(&[1, 2, 3]),
+        14 => Call::Show(list),
+        15 => solve(1001, 0),
+        16 => solve(1000, 1000001),
+        17 => limits(0, 3),
+        18 => solve(1000, 100000),
+        _ => Call::Show(&mut list[..2]),
+    }
 }
 
-/// Has the plan show what it knows, in a list of some length.
-fn show_into<G: Table, A: Table>(
-    rt: &HostRuntime,
-    plan: &mut Plan<G, A>,
-    list: &mut [i64],
-) -> io::Result<()> {
-    make(rt, plan, Call::Show(list))
+/// The calls of the script: a point, a pair, other limits that leave the point out, a proof of none, calls that are refused, and a solve.
+/// Each has a list of its own, which a show writes into.
+fn asks<'a>(heap: Global, lists: &'a mut [[i64; 3]]) -> Result<Vec<Asked<'a>>, AllocError> {
+    let mut asked = Vec::with_capacity(heap, lists.len())?;
+    for (place, list) in lists.iter_mut().enumerate() {
+        asked.push(Asked::new(call_at(place, list)))?;
+    }
+    Ok(asked)
 }
 
-/// Has the plan show what it knows, in a list of two numbers as it wants.
-fn show<G: Table, A: Table>(rt: &HostRuntime, plan: &mut Plan<G, A>) -> io::Result<()> {
-    let mut list = [0i64; 2];
-    show_into(rt, plan, &mut list)
+/// Makes the script's calls on J over records as one session, and prints the answers.
+fn over_records(rt: &HostRuntime) -> anyhow::Result<()> {
+    println!(rt; "over records")?;
+    let g = Triplets::new(2, 2, &CURVATURE);
+    let a = Triplets::new(1, 2, &ROW);
+    let mut lists = [[0i64; 3]; CALLS];
+    let mut asked = asks(rt.alloc(), &mut lists)?;
+    match session(g, a, &LISTS, asked.as_mut_slice()) {
+        Ok(()) => {
+            for slot in asked.iter() {
+                print_slot(rt, slot)?;
+            }
+        }
+        Err(refusal) => print_refusal(rt, &refusal)?,
+    }
+    Ok(())
 }
 
-/// The first half of the script: a point, a pair, and other limits that leave the point out.
-fn make_offers<G: Table, A: Table>(rt: &HostRuntime, plan: &mut Plan<G, A>) -> io::Result<()> {
-    show(rt, plan)?;
-    make(rt, plan, Call::Point(&[1, 2]))?;
-    show(rt, plan)?;
-    make(rt, plan, Call::Point(&[2, 2]))?;
-    let pair = Pair {
-        point: &[1, 2],
-        multipliers: &[-512],
-    };
-    make(rt, plan, Call::Floor(pair))?;
-    show(rt, plan)?;
-    make(rt, plan, limits(0, 2))?;
-    show(rt, plan)
-}
-
-/// The second half: a proof of none, calls that are refused, and a solve.
-fn make_proofs<G: Table, A: Table>(rt: &HostRuntime, plan: &mut Plan<G, A>) -> io::Result<()> {
-    make(rt, plan, limits(20, 30))?;
-    make(rt, plan, Call::Proof(&[1]))?;
-    make(rt, plan, limits(21, 30))?;
-    make(rt, plan, Call::Proof(&[1]))?;
-    show(rt, plan)?;
-    make(rt, plan, Call::Point(&[1, 2, 3]))?;
-    show_into(rt, plan, &mut [0, 0, 0])?;
-    make(rt, plan, solve(1001, 0))?;
-    make(rt, plan, solve(1000, 1000001))?;
-    make(rt, plan, limits(0, 3))?;
-    make(rt, plan, solve(1000, 100000))?;
-    show(rt, plan)
-}
-
-/// Opens J over two tables, and makes the script's calls on it.
+/// Opens J over two tables, makes the script's calls on it one by one, and prints each answer as it comes.
 fn run_script<G: Table + Drop, A: Table + Drop>(
     rt: &HostRuntime,
     name: &str,
     g: G,
     a: A,
-) -> io::Result<()> {
+) -> anyhow::Result<()> {
     println!(rt; "over {name}")?;
     match Plan::open(g, a, &LISTS) {
         Ok(mut plan) => {
-            make_offers(rt, &mut plan)?;
-            make_proofs(rt, &mut plan)
+            let mut lists = [[0i64; 3]; CALLS];
+            let mut asked = asks(rt.alloc(), &mut lists)?;
+            for slot in asked.iter_mut() {
+                run(&mut plan, slice::from_mut(slot));
+                print_slot(rt, slot)?;
+            }
         }
-        Err(refusal) => print_refusal(rt, &refusal),
+        Err(refusal) => print_refusal(rt, &refusal)?,
     }
+    Ok(())
 }
 
 /// J over a flip of each of its tables: the row stands as a column below.
-fn over_flips(rt: &HostRuntime) -> io::Result<()> {
+fn over_flips(rt: &HostRuntime) -> anyhow::Result<()> {
     let column = [Record::new(0, 0, 1), Record::new(1, 0, 1)];
     let g = Flip::over(Triplets::new(2, 2, &CURVATURE));
     let a = Flip::over(Triplets::new(2, 1, &column));
@@ -166,7 +172,7 @@ fn over_flips(rt: &HostRuntime) -> io::Result<()> {
 }
 
 /// J over its card, and over sums that a card with half of its numbers and records make up.
-fn over_cards(rt: &HostRuntime, card: &[u8], half: &[u8]) -> io::Result<()> {
+fn over_cards(rt: &HostRuntime, card: &[u8], half: &[u8]) -> anyhow::Result<()> {
     let g = CardTable::curvature(card);
     let a = CardTable::rows(card);
     run_script(rt, "a card", g, a)?;
@@ -199,17 +205,14 @@ fn write_card(
 }
 
 fn run_all(rt: &HostRuntime) -> anyhow::Result<()> {
-    let g = Triplets::new(2, 2, &CURVATURE);
-    let a = Triplets::new(1, 2, &ROW);
-    run_script(rt, "records", g, a)?;
+    over_records(rt)?;
     over_flips(rt)?;
     let mut card = [0u8; BYTES];
     write_card(rt, &CURVATURE, &ROW, &mut card)?;
     let mut half = [0u8; BYTES];
     let ones = [Record::new(0, 0, 1), Record::new(1, 1, 1)];
     write_card(rt, &ones, &[Record::new(0, 0, 1)], &mut half)?;
-    over_cards(rt, &card, &half)?;
-    Ok(())
+    over_cards(rt, &card, &half)
 }
 
 fn main(rt: HostRuntime) -> anyhow::Result<()> {
